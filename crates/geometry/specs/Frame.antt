@@ -1,0 +1,86 @@
+-- What the header's tests say, by name, and the bounds that follow. Assumes nothing.
+use Prim.Native.Nat.{ℕ, _+_, _*_, _%_, _≤_, _<_}
+use native.Mathlib.Nat.{mul-le-mul}
+use native.Mathlib.Omega.{arith}
+use mathlib.Core.List.{List}
+use mathlib.Core.Bool.{Bool, true}
+use mathlib.Core.Path.{_≡_, _∙_}
+use lib.ListN.{length}
+use borrow.Author.Tests.{leb-true, eqb-true}
+use Rattle.rules.specs.Every.{every, holds}
+use Rattle.geometry.specs.declared.Geometry.{Geometry}
+use Rattle.geometry.specs.Header.{geometryOf, rangesOk, offsetsOk, framedOk, slotSize, tableEnd, slotsEnd, endOf}
+
+pub record InRange (g : Geometry) : Type 0 where
+  pub d-low : 2 ≤ g .d
+  pub d-high : g .d ≤ 32
+  pub b-low : 1 ≤ g .b
+  pub b-high : g .b ≤ 65536
+  pub l-low : 4 ≤ g .l
+  pub l-high : g .l ≤ 4096
+  pub l-four : g .l % 4 ≡ 0
+  pub s-high : g .s ≤ 16
+  pub m-low : 1 ≤ g .m
+  pub m-high : g .m ≤ 256
+
+pub record Placed (g : Geometry) : Type 0 where
+  pub ranges : InRange g
+  pub table-is : g .table ≡ 32
+  pub slots-is : g .slots ≡ tableEnd g
+  pub media-is : g .media ≡ slotsEnd g
+
+pub record Framed (s : List ℕ) (g : Geometry) : Type 0 where
+  pub placed : Placed g
+  pub length-is : length s ≡ endOf g
+
+pub in-range : (g : Geometry) → rangesOk g ≡ true → InRange g
+unfolding rangesOk
+in-range g e =
+    record {
+      d-low = leb-true _ _ (holds _ 0 e);
+      d-high = leb-true _ _ (holds _ 1 e);
+      b-low = leb-true _ _ (holds _ 2 e);
+      b-high = leb-true _ _ (holds _ 3 e);
+      l-low = leb-true _ _ (holds _ 4 e);
+      l-high = leb-true _ _ (holds _ 5 e);
+      l-four = eqb-true _ _ (holds _ 6 e);
+      s-high = leb-true _ _ (holds _ 7 e);
+      m-low = leb-true _ _ (holds _ 8 e);
+      m-high = leb-true _ _ (holds _ 9 e);
+    }
+
+pub placed : (g : Geometry) → rangesOk g ≡ true → offsetsOk g ≡ true → Placed g
+unfolding offsetsOk
+placed g r e =
+    record {
+      ranges = in-range g r;
+      table-is = eqb-true _ _ (holds _ 0 e);
+      slots-is = eqb-true _ _ (holds _ 1 e);
+      media-is = eqb-true _ _ (holds _ 2 e);
+    }
+
+pub framed-long : (s : List ℕ) → framedOk s ≡ true → 32 ≤ length s
+unfolding framedOk
+framed-long s e = leb-true _ _ (holds _ 0 e)
+
+pub framed : (s : List ℕ) → framedOk s ≡ true → Framed s (geometryOf s)
+unfolding framedOk
+framed s e = record { placed = placed (geometryOf s) (holds _ 1 e) (holds _ 2 e); length-is = eqb-true _ _ (holds _ 3 e) }
+
+-- an image of the same length is framed too
+pub framed-same : (s s′ : List ℕ) (g : Geometry) → Framed s g → length s′ ≡ length s → Framed s′ g
+framed-same s s′ g f e = record { placed = f .placed; length-is = e ∙ f .length-is }
+
+-- ---- the products are small
+module _ (g : Geometry) (r : InRange g) where
+  pub slot-small : g .m * g .l ≤ 1048576
+  slot-small = mul-le-mul (r .m-high) (r .l-high)
+
+  pub slots-small : g .s * slotSize g ≤ 16777472
+  slots-small = let h : slotSize g ≤ 1048592 = omega (arith, slot-small) in mul-le-mul (r .s-high) h
+
+  pub blocks-small : g .d * g .b ≤ 2097152
+  blocks-small = mul-le-mul (r .d-high) (r .b-high)
+
+  pub media-small : g .d * g .b * g .l ≤ 8589934592
+  media-small = mul-le-mul blocks-small (r .l-high)

@@ -1,0 +1,85 @@
+-- 01, "The image: counts, then offsets". All numbers are big-endian. Assumes nothing.
+use Prim.Native.Nat.{ℕ, _+_, _*_, _%_}
+use mathlib.Core.List.{List, [], _∷_}
+use mathlib.Core.Bool.{Bool}
+use lib.ListN.{length}
+use lib.Dec.{leb, eqb}
+use Rattle.octets.specs.Number.{be}
+use Rattle.rules.specs.Every.{every}
+use Rattle.geometry.specs.declared.Geometry.{Geometry}
+
+-- "The header is eight 4-byte fields": D, B, L, S, M, "then the offsets of the drive table, slots and media"
+abbrev pub geometryOf : List ℕ → Geometry
+geometryOf s =
+    record {
+      d = be 4 s 0;
+      b = be 4 s 4;
+      l = be 4 s 8;
+      s = be 4 s 12;
+      m = be 4 s 16;
+      table = be 4 s 20;
+      slots = be 4 s 24;
+      media = be 4 s 28;
+    }
+
+-- "drives D (2 to 32), blocks per drive B (1 to 65,536), block length L (4 to 4,096, a multiple of 4), slots S (0 to 16), slot size M
+-- in blocks (1 to 256)"
+unfoldable pub rangesOk : Geometry → Bool
+rangesOk g =
+    every
+    (leb 2 (g .d)
+    ∷ leb (g .d) 32
+    ∷ leb 1 (g .b)
+    ∷ leb (g .b) 65536
+    ∷ leb 4 (g .l)
+    ∷ leb (g .l) 4096
+    ∷ eqb (g .l % 4) 0
+    ∷ leb (g .s) 16
+    ∷ leb 1 (g .m)
+    ∷ leb (g .m) 256
+    ∷ [])
+
+-- "Drive table at 32: per drive 4 bytes"
+abbrev pub stride : Geometry → ℕ
+stride g = 4
+
+-- "Slots at 32 + 4D: each 16 + M*L bytes"
+abbrev pub slotSize : Geometry → ℕ
+slotSize g = 16 + g .m * g .l
+
+abbrev pub tableEnd : Geometry → ℕ
+tableEnd g = 32 + stride g * g .d
+
+-- "Media at 32 + 4D + S(16 + M*L)"
+abbrev pub slotsEnd : Geometry → ℕ
+slotsEnd g = tableEnd g + g .s * slotSize g
+
+unfoldable pub offsetsOk : Geometry → Bool
+offsetsOk g = every (eqb (g .table) 32 ∷ eqb (g .slots) (tableEnd g) ∷ eqb (g .media) (slotsEnd g) ∷ [])
+
+-- "The image ends there, D*B*L bytes on."
+abbrev pub endOf : Geometry → ℕ
+endOf g = g .media + g .d * g .b * g .l
+
+-- the header is right, and the image as long as it says
+unfoldable pub framedOk : List ℕ → Bool
+framedOk s =
+    every
+    (leb 32 (length s) ∷ rangesOk (geometryOf s) ∷ offsetsOk (geometryOf s) ∷ eqb (length s) (endOf (geometryOf s)) ∷ [])
+
+-- ---- places
+
+-- drive i's entry of the table
+abbrev pub entryAt : Geometry → ℕ → ℕ
+entryAt g i = g .table + stride g * i
+
+-- slot i: its record, then its data
+unfoldable pub slotAt : Geometry → ℕ → ℕ
+slotAt g i = g .slots + i * slotSize g
+
+abbrev pub dataAt : Geometry → ℕ → ℕ
+dataAt g i = slotAt g i + 16
+
+-- drive d's block b: "drive 0's blocks, then drive 1's, and so on"
+unfoldable pub place : Geometry → ℕ → ℕ → ℕ
+place g d b = g .media + (d * g .b + b) * g .l

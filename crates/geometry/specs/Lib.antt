@@ -1,0 +1,4 @@
+pub mod Header
+pub mod Frame
+pub mod Places
+pub mod Kept

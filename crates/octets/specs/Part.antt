@@ -1,0 +1,69 @@
+-- A part of a list of bytes, and its laws. Assumes nothing.
+use mathlib.Core.Path.{_≡_, sym, ap, _∙_}
+use Prim.Native.Nat.{ℕ, zero, suc, _+_, _-_, _≤_, _<_}
+use native.Mathlib.Numerals.{add-one}
+use native.Mathlib.Omega.{arith}
+use mathlib.Core.List.{List, [], _∷_, _++_}
+use lib.ListN.{length, getD, take, drop, length-take, length-drop}
+use lib.Seq.{getD-take, getD-drop, take-take, drop-drop, take-nil, take-add, drop-cons, take-length, take-at}
+
+-- the n bytes from index at on, or as many as there are
+unfoldable pub part : List ℕ → ℕ → ℕ → List ℕ
+part xs at n = take n (drop at xs)
+
+pub length-part : (xs : List ℕ) (at n : ℕ) → at + n ≤ length xs → length (part xs at n) ≡ n
+unfolding part
+length-part xs at n h = simp (length-take, length-drop) (omega arith)
+
+pub getD-part : (xs : List ℕ) (at n j : ℕ) → j < n → getD (part xs at n) j 0 ≡ getD xs (at + j) 0
+unfolding part
+getD-part xs at n j h = getD-take n (drop at xs) j 0 h ∙ getD-drop at xs j 0
+
+-- a part of a part
+drop-take : (a n : ℕ) (xs : List ℕ) → drop a (take n xs) ≡ take (n - a) (drop a xs)
+drop-take zero n xs = let e : n - 0 ≡ n = omega arith in rw e
+drop-take (suc a) zero xs = let e : 0 - suc a ≡ 0 = omega arith in rw e
+drop-take (suc a) (suc n) [] = sym (take-nil (suc n - suc a))
+drop-take (suc a) (suc n) (x ∷ xs) = let e : suc n - suc a ≡ n - a = omega arith in rw e (drop-take a n xs)
+
+pub part-part : (xs : List ℕ) (at n a m : ℕ) → a + m ≤ n → part (part xs at n) a m ≡ part xs (at + a) m
+unfolding part
+part-part xs at n a m h =
+    ap (take m) (drop-take a n (drop at xs)) ∙ take-take m (n - a) (drop a (drop at xs)) (omega arith) ∙ ap (take m) (drop-drop a at xs)
+
+pub part-add : (xs : List ℕ) (at n m : ℕ) → part xs at (n + m) ≡ part xs at n ++ part xs (at + n) m
+unfolding part
+part-add xs at n m = take-add n m (drop at xs) ∙ ap (λ (r : List ℕ). take n (drop at xs) ++ take m r) (drop-drop n at xs)
+
+pub take-part : (xs : List ℕ) (at n k : ℕ) → k ≤ n → take k (part xs at n) ≡ part xs at k
+unfolding part
+take-part xs at n k h = take-take k n (drop at xs) h
+
+pub part-cons : (xs : List ℕ) (at n : ℕ) → at < length xs → part xs at (suc n) ≡ getD xs at 0 ∷ part xs (at + 1) n
+unfolding part
+part-cons xs at n h = ap (take (suc n)) (drop-cons xs at 0 h) ∙ rw add-one
+
+pub part-snoc : (xs : List ℕ) (at n : ℕ) → at + n < length xs → part xs at (n + 1) ≡ part xs at n ++ (getD xs (at + n) 0 ∷ [])
+unfolding part
+part-snoc xs at n h = part-add xs at n 1 ∙ ap (λ (r : List ℕ). part xs at n ++ r) (part-cons xs (at + n) 0 h)
+
+pub part-all : (xs : List ℕ) → part xs 0 (length xs) ≡ xs
+unfolding part
+part-all xs = take-length xs
+
+-- what a shared `&xs[at..at + n]` is to the borrow checker
+pub mid-part : (xs : List ℕ) (at n : ℕ) → take (at + n - at) (drop at xs) ≡ part xs at n
+unfolding part
+mid-part xs at n = let e : at + n - at ≡ n = omega arith in rw e
+
+-- and `&xs[at..]`
+pub rest-part : (xs : List ℕ) (at n : ℕ) → at + n ≡ length xs → drop at xs ≡ part xs at n
+unfolding part
+rest-part xs at n h =
+    let l : length (drop at xs) ≡ n = length-drop at xs ∙ omega arith in
+    sym (ap (λ (k : ℕ). take k (drop at xs)) (sym l) ∙ take-length (drop at xs))
+
+-- the front of two joined lists
+pub part-append-front : (xs ys : List ℕ) (n : ℕ) → length xs ≡ n → part (xs ++ ys) 0 n ≡ xs
+unfolding part
+part-append-front xs ys n e = take-at xs ys n e

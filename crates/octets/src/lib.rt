@@ -1,0 +1,103 @@
+// Bytes: the leaves that every read and every change of a shelf's image goes through.
+//
+// Their contracts are single equations in the vocabulary of `specs/`: `part` (a range read), `put`
+// (a range written), `⊻` (XOR, the shorter list filled up with zeros), `be n` and `toBe n`
+// (big-endian numbers). Only the functions named `_at` lend a part of a mutable slice.
+mod number;
+
+pub use number::be1;
+pub use number::be2;
+pub use number::be3;
+pub use number::be4;
+pub use number::byte;
+pub use number::put_be2;
+pub use number::put_be3;
+pub use number::put_be4;
+ghost use mathlib.Core.Path.{_≡_};
+ghost use Prim.Native.Nat.{_+_, _≤_};
+ghost use lib.ListN.{length, replicate};
+ghost use Rattle.octets.specs.Part.{part};
+ghost use Rattle.octets.specs.Put.{put};
+ghost use Rattle.octets.specs.Xor.{_⊻_};
+
+// XORs src into dst. It has no locals but an index, so its stack does not grow with the block.
+pub fn xor_into(dst: &mut [u8], src: &[u8])
+    requires { ⌜ length (now dst) ≡ length (now src) ⌝ }
+    ensures { λ _. ⌜ now (dst .exit) ≡ now (dst .entry) ⊻ now (src .entry) ⌝ }
+{
+    let n = dst.len();
+    let mut i = 0;
+    while i < n {
+        dst[i] = dst[i] ^ src[i];
+        i += 1;
+    }
+}
+
+// Copies src over dst.
+pub fn copy_into(dst: &mut [u8], src: &[u8])
+    requires { ⌜ length (now dst) ≡ length (now src) ⌝ }
+    ensures { λ _. ⌜ now (dst .exit) ≡ now (src .entry) ⌝ }
+{
+    let n = dst.len();
+    let mut i = 0;
+    while i < n {
+        dst[i] = src[i];
+        i += 1;
+    }
+}
+
+// Fills dst with zeros.
+pub fn fill_zero(dst: &mut [u8])
+    ensures { λ _. ⌜ now (dst .exit) ≡ replicate (length (now (dst .entry))) 0 ⌝ }
+{
+    let n = dst.len();
+    let mut i = 0;
+    while i < n {
+        dst[i] = 0;
+        i += 1;
+    }
+}
+
+// XORs src into the bytes of xs from index at on.
+pub fn xor_at(xs: &mut [u8], at: usize, src: &[u8])
+    requires { ⌜ at + length (now src) ≤ length (now xs) ⌝ }
+    ensures { λ _. ⌜ now (xs .exit) ≡ put (now (xs .entry)) at (part (now (xs .entry)) at (length (now (src .entry))) ⊻ now (src .entry)) ⌝ }
+{
+    let n = src.len();
+    xor_into(&mut xs[at..at + n], src);
+}
+
+// Writes src over the bytes of xs from index at on.
+pub fn put_at(xs: &mut [u8], at: usize, src: &[u8])
+    requires { ⌜ at + length (now src) ≤ length (now xs) ⌝ }
+    ensures { λ _. ⌜ now (xs .exit) ≡ put (now (xs .entry)) at (now (src .entry)) ⌝ }
+{
+    let n = src.len();
+    copy_into(&mut xs[at..at + n], src);
+}
+
+// Writes n zeros over the bytes of xs from index at on.
+pub fn zero_at(xs: &mut [u8], at: usize, n: usize)
+    requires { ⌜ at + n ≤ length (now xs) ⌝ }
+    ensures { λ _. ⌜ now (xs .exit) ≡ put (now (xs .entry)) at (replicate n 0) ⌝ }
+{
+    fill_zero(&mut xs[at..at + n]);
+}
+
+// XORs the bytes of xs from index at on into acc.
+pub fn xor_from(acc: &mut [u8], xs: &[u8], at: usize)
+    requires { ⌜ at + length (now acc) ≤ length (now xs) ⌝ }
+    ensures { λ _. ⌜ now (acc .exit) ≡ now (acc .entry) ⊻ part (now (xs .entry)) at (length (now (acc .entry))) ⌝ }
+{
+    let n = acc.len();
+    xor_into(acc, &xs[at..at + n]);
+}
+
+// Copies the bytes of xs from index at on over acc.
+pub fn copy_from(acc: &mut [u8], xs: &[u8], at: usize)
+    requires { ⌜ at + length (now acc) ≤ length (now xs) ⌝ }
+    ensures { λ _. ⌜ now (acc .exit) ≡ part (now (xs .entry)) at (length (now (acc .entry))) ⌝ }
+{
+    let n = acc.len();
+    copy_into(acc, &xs[at..at + n]);
+}

@@ -1,0 +1,7 @@
+pub mod Cases
+pub mod Every
+pub mod All
+pub mod Count
+pub mod Least
+pub mod Rule
+pub mod Tests

@@ -1,0 +1,57 @@
+-- A result comes, goes, and all of a drive's go (01, "The image" and "Commands"). Assumes nothing.
+use Prim.Native.Nat.{ℕ, zero, suc, _+_, _-_}
+use mathlib.Core.List.{List, [], _∷_, _++_}
+use mathlib.Core.Bool.{Bool, cond}
+use lib.Dec.{ltb, eqb}
+use lib.ListN.{replicate}
+use Rattle.octets.specs.Put.{put}
+use Rattle.octets.specs.Number.{toBe}
+use Rattle.rules.specs.declared.Found.{Found}
+use Rattle.rules.specs.declared.Found.the-variants.{At, Nothing}
+use Rattle.rules.specs.Every.{every}
+use Rattle.geometry.specs.declared.Geometry.{Geometry}
+use Rattle.geometry.specs.declared.Block.{Block}
+use Rattle.geometry.specs.Header.{slotAt}
+use Rattle.slots.specs.declared.Slot.{Slot}
+use Rattle.slots.specs.Record.{slotOf, bytesOf, isUsed}
+use Rattle.slots.specs.Slots.{usedCount}
+use Rattle.slots.specs.Find.{emptySlot}
+
+-- a result's record: n blocks of the drive from the block on, of a kind, at a rank
+abbrev pub entry : ℕ → ℕ → ℕ → ℕ → ℕ → Slot
+entry rank kind drive block n = record { rank = rank; kind = kind; drive = drive; len = n; block = record { 0 = block }; last = 0 }
+
+-- "its bytes fill the front of the slot, the rest stays"; where no slot is empty nothing is retained
+abbrev pub entered : Found → List ℕ → Geometry → Slot → List ℕ → List ℕ
+entered (At i) s g r bytes = put s (slotAt g i) (bytesOf r ++ bytes)
+entered Nothing s g r bytes = s
+
+-- "A new result takes the lowest-numbered empty slot and rank k+1"
+unfoldable pub retained : List ℕ → Geometry → ℕ → ℕ → ℕ → ℕ → List ℕ → List ℕ
+retained s g kind drive block n bytes = entered (emptySlot s g) s g (entry (usedCount s g + 1) kind drive block n) bytes
+
+-- "higher ranks fall by one": in slot i, and in the first n slots
+unfoldable pub lowerOne : Geometry → ℕ → ℕ → List ℕ → List ℕ
+lowerOne g rank i s = cond (ltb rank (slotOf s g i .rank)) (put s (slotAt g i) (toBe 4 (slotOf s g i .rank - 1))) s
+
+unfoldable pub lowered : Geometry → ℕ → ℕ → List ℕ → List ℕ
+lowered g rank zero s = s
+lowered g rank (suc n) s = lowerOne g rank n (lowered g rank n s)
+
+-- "When a result goes, its record is zeroed, its data left, and higher ranks fall by one."
+unfoldable pub released : List ℕ → Geometry → ℕ → List ℕ
+released s g i = lowered g (slotOf s g i .rank) (g .s) (put s (slotAt g i) (replicate 16 0))
+
+-- "Hard reset drops all results of its drive": slot i's, and those of the first n slots
+abbrev pub ofDrive : ℕ → Slot → Bool
+ofDrive drive r = every (isUsed r ∷ eqb (r .drive) drive ∷ [])
+
+unfoldable pub dropOne : Geometry → ℕ → ℕ → List ℕ → List ℕ
+dropOne g drive i s = cond (ofDrive drive (slotOf s g i)) (released s g i) s
+
+unfoldable pub droppedTo : Geometry → ℕ → ℕ → List ℕ → List ℕ
+droppedTo g drive zero s = s
+droppedTo g drive (suc n) s = dropOne g drive n (droppedTo g drive n s)
+
+unfoldable pub dropped : List ℕ → Geometry → ℕ → List ℕ
+dropped s g drive = droppedTo g drive (g .s) s

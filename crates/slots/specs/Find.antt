@@ -1,0 +1,34 @@
+-- The slot that takes a result, and the slot that answers. Assumes nothing.
+use Prim.Native.Nat.{ℕ, zero, suc}
+use mathlib.Core.List.{List, [], _∷_}
+use mathlib.Core.Bool.{Bool, not, cond}
+use lib.Dec.{ltb, eqb}
+use Rattle.rules.specs.declared.Found.{Found}
+use Rattle.rules.specs.declared.Found.the-variants.{At, Nothing}
+use Rattle.rules.specs.Every.{every}
+use Rattle.rules.specs.Least.{leastBelow}
+use Rattle.geometry.specs.declared.Geometry.{Geometry}
+use Rattle.slots.specs.declared.Slot.{Slot}
+use Rattle.slots.specs.declared.Best.{Best}
+use Rattle.slots.specs.Record.{slotOf, isUsed}
+
+-- "A new result takes the lowest-numbered empty slot"
+unfoldable pub emptySlot : List ℕ → Geometry → Found
+emptySlot s g = leastBelow (g .s) (λ i. not (isUsed (slotOf s g i)))
+
+-- a result "retained on that drive with that block number"
+abbrev pub wanted : ℕ → ℕ → Slot → Bool
+wanted drive block r = every (isUsed r ∷ eqb (r .drive) drive ∷ eqb (r .block .0) block ∷ [])
+
+-- the best so far, or slot i where it is wanted and of a higher rank
+unfoldable pub better : ℕ → ℕ → Best → ℕ → Slot → Best
+better drive block b i r = cond (every (wanted drive block r ∷ ltb (b .top) (r .rank) ∷ [])) (record { top = r .rank; found = At i }) b
+
+-- of the first n slots
+unfoldable pub bestOf : List ℕ → Geometry → ℕ → ℕ → ℕ → Best
+bestOf s g drive block zero = record { top = 0; found = Nothing }
+bestOf s g drive block (suc n) = better drive block (bestOf s g drive block n) n (slotOf s g n)
+
+-- "the newest retained on that drive with that block number": of those wanted, the one of the highest rank
+unfoldable pub newestOf : List ℕ → Geometry → ℕ → ℕ → Found
+newestOf s g drive block = bestOf s g drive block (g .s) .found

@@ -1,0 +1,7 @@
+pub mod Record
+pub mod Slots
+pub mod Find
+pub mod Change
+pub mod RecordLaws
+pub mod Facts
+pub mod Stored

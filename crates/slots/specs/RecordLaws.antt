@@ -1,0 +1,83 @@
+-- What is written as a record is read as it. Assumes nothing.
+use mathlib.Core.Path.{_≡_, refl, sym, ap, _∙_}
+use mathlib.Core.List.{List, [], _∷_, _++_}
+use mathlib.Core.Logic.{inl, inr}
+use Prim.Native.Nat.{ℕ, _+_, _^_, _≤_, _<_}
+use native.Mathlib.Omega.{arith}
+use lib.ListN.{length, replicate, length-append}
+use Rattle.octets.specs.Part.{part, length-part}
+use Rattle.octets.specs.Put.{put}
+use Rattle.octets.specs.Octets.{Octets, octets-part}
+use Rattle.octets.specs.Number.{be, num, toBe, length-toBe, num-toBe-lt, be-put, be-put-apart, be-lt}
+use Rattle.geometry.specs.declared.Geometry.{Geometry}
+use Rattle.geometry.specs.Header.{slotAt}
+use Rattle.slots.specs.declared.Slot.{Slot}
+use Rattle.slots.specs.Record.{recordOf, bytesOf, slotOf, zeroSlot}
+
+-- each field fits its bytes
+pub record Small (r : Slot) : Type 0 where
+  pub rank-small : r .rank < 2 ^ 32
+  pub kind-small : r .kind < 256
+  pub drive-small : r .drive < 256
+  pub len-small : r .len < 2 ^ 16
+  pub block-small : r .block .0 < 2 ^ 32
+  pub last-small : r .last < 2 ^ 32
+
+abbrev made : ℕ → ℕ → ℕ → ℕ → ℕ → ℕ → Slot
+made a b c d e f = record { rank = a; kind = b; drive = c; len = d; block = record { 0 = e }; last = f }
+
+same-made : {a b c d e f a′ b′ c′ d′ e′ f′ : ℕ} → a ≡ a′ → b ≡ b′ → c ≡ c′ → d ≡ d′ → e ≡ e′ → f ≡ f′ → made a b c d e f ≡ made a′ b′ c′ d′ e′ f′
+same-made p q r s t u = rw (p, q, r, s, t, u)
+
+-- two records with the same fields
+pub same-slot : (r t : Slot) → r .rank ≡ t .rank → r .kind ≡ t .kind → r .drive ≡ t .drive → r .len ≡ t .len → r .block .0 ≡ t .block .0 → r .last ≡ t .last → r ≡ t
+same-slot r t e0 e1 e2 e3 e4 e5 = same-made e0 e1 e2 e3 e4 e5
+
+pub length-bytes : (r : Slot) → length (bytesOf r) ≡ 16
+unfolding bytesOf toBe
+length-bytes r = refl
+
+pub record-bytes : (r : Slot) → Small r → recordOf (bytesOf r) ≡ r
+unfolding bytesOf toBe part
+record-bytes r h =
+    same-slot (recordOf (bytesOf r)) r (num-toBe-lt 4 (r .rank) (h .rank-small)) (num-toBe-lt 1 (r .kind) (h .kind-small))
+    (num-toBe-lt 1 (r .drive) (h .drive-small)) (num-toBe-lt 2 (r .len) (h .len-small)) (num-toBe-lt 4 (r .block .0) (h .block-small))
+    (num-toBe-lt 4 (r .last) (h .last-small))
+
+-- sixteen zeros are an empty slot's record
+pub record-zeros : recordOf (replicate 16 0) ≡ zeroSlot
+unfolding part num
+record-zeros = refl
+
+-- the record with another rank
+abbrev pub ranked : ℕ → Slot → Slot
+ranked n r = record { rank = n; kind = r .kind; drive = r .drive; len = r .len; block = r .block; last = r .last }
+
+-- four bytes written over its front are its rank
+pub record-ranked : (r : List ℕ) (v : ℕ) → length r ≡ 16 → v < 2 ^ 32 → recordOf (put r 0 (toBe 4 v)) ≡ ranked v (recordOf r)
+record-ranked r v l h =
+    let n : length (toBe 4 v) ≡ 4 = length-toBe 4 v in
+    let t = put r 0 (toBe 4 v) in
+    let e0 : be 4 t 0 ≡ v = be-put 4 r 0 v (omega arith) h in
+    let e1 : be 1 t 4 ≡ be 1 r 4 = be-put-apart 1 r 0 (toBe 4 v) 4 (inr (omega arith)) in
+    let e2 : be 1 t 5 ≡ be 1 r 5 = be-put-apart 1 r 0 (toBe 4 v) 5 (inr (omega arith)) in
+    let e3 : be 2 t 6 ≡ be 2 r 6 = be-put-apart 2 r 0 (toBe 4 v) 6 (inr (omega arith)) in
+    let e4 : be 4 t 8 ≡ be 4 r 8 = be-put-apart 4 r 0 (toBe 4 v) 8 (inr (omega arith)) in
+    let e5 : be 4 t 12 ≡ be 4 r 12 = be-put-apart 4 r 0 (toBe 4 v) 12 (inr (omega arith)) in
+    cc
+
+-- what bytes write is small
+pub record-small : (r : List ℕ) → length r ≡ 16 → Octets r → Small (recordOf r)
+record-small r l h =
+    record {
+      rank-small = be-lt 4 r 0 (omega arith) h;
+      kind-small = be-lt 1 r 4 (omega arith) h;
+      drive-small = be-lt 1 r 5 (omega arith) h;
+      len-small = be-lt 2 r 6 (omega arith) h;
+      block-small = be-lt 4 r 8 (omega arith) h;
+      last-small = be-lt 4 r 12 (omega arith) h;
+    }
+
+pub slot-small : (s : List ℕ) (g : Geometry) (i : ℕ) → Octets s → slotAt g i + 16 ≤ length s → Small (slotOf s g i)
+unfolding slotOf
+slot-small s g i h l = record-small (part s (slotAt g i) 16) (length-part s (slotAt g i) 16 l) (octets-part s (slotAt g i) 16 h)

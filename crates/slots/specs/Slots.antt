@@ -1,0 +1,52 @@
+-- What makes the slots right (01, "The image"). Assumes nothing.
+use Prim.Native.Nat.{ℕ, _+_, _≤_, _<_}
+use mathlib.Core.List.{List, [], _∷_}
+use mathlib.Core.Bool.{Bool, cond}
+use lib.Dec.{leb, ltb, eqb}
+use Rattle.rules.specs.Every.{every}
+use Rattle.rules.specs.All.{allBelow}
+use Rattle.rules.specs.Count.{countBelow}
+use Rattle.geometry.specs.declared.Geometry.{Geometry}
+use Rattle.slots.specs.declared.Slot.{Slot}
+use Rattle.slots.specs.Record.{slotOf, isUsed}
+
+-- "An empty slot's record is all zero; its data may be anything." (That its kind is zero says that it is empty.)
+abbrev pub emptyOk : Slot → Bool
+emptyOk r = every (eqb (r .rank) 0 ∷ eqb (r .drive) 0 ∷ eqb (r .len) 0 ∷ eqb (r .block .0) 0 ∷ eqb (r .last) 0 ∷ [])
+
+-- "Used slots have kind 1 or 2, index below D, length 1 to M, block + length at most B, and their ranks are 1 to k": k of them are used
+abbrev pub usedOk : Geometry → ℕ → Slot → Bool
+usedOk g k r =
+    every
+    (leb 1 (r .kind)
+    ∷ leb (r .kind) 2
+    ∷ ltb (r .drive) (g .d)
+    ∷ leb 1 (r .len)
+    ∷ leb (r .len) (g .m)
+    ∷ leb (r .block .0 + r .len) (g .b)
+    ∷ eqb (r .last) 0
+    ∷ leb 1 (r .rank)
+    ∷ leb (r .rank) k
+    ∷ [])
+
+unfoldable pub slotOk : Geometry → ℕ → Slot → Bool
+slotOk g k r = cond (isUsed r) (usedOk g k r) (emptyOk r)
+
+-- how many slots are used
+abbrev pub usedCount : List ℕ → Geometry → ℕ
+usedCount s g = countBelow (g .s) (λ i. isUsed (slotOf s g i))
+
+-- how many used slots have rank n
+abbrev pub hasRank : ℕ → Slot → Bool
+hasRank n r = every (isUsed r ∷ eqb (r .rank) n ∷ [])
+
+abbrev pub rankCount : List ℕ → Geometry → ℕ → ℕ
+rankCount s g n = countBelow (g .s) (λ i. hasRank n (slotOf s g i))
+
+-- "their ranks are 1 to k, each once"
+unfoldable pub slotsOk : List ℕ → Geometry → Bool
+slotsOk s g =
+    every
+    (allBelow (g .s) (λ i. slotOk g (usedCount s g) (slotOf s g i))
+    ∷ allBelow (usedCount s g) (λ n. eqb (rankCount s g (n + 1)) 1)
+    ∷ [])
