@@ -118,6 +118,10 @@ be-put-apart n xs at ys a w = ap num (part-put-apart xs at ys a n w)
 last : (v : ℕ) → v / 1 ≡ v
 last v = omega arith
 
+pub toBe1 : (v : ℕ) → toBe 1 v ≡ v % 256 ∷ []
+unfolding toBe
+toBe1 v = rw last
+
 pub toBe2 : (v : ℕ) → toBe 2 v ≡ v / 256 % 256 ∷ v % 256 ∷ []
 unfolding toBe
 toBe2 v = rw last
@@ -129,8 +133,3 @@ toBe3 v = rw last
 pub toBe4 : (v : ℕ) → toBe 4 v ≡ v / 16777216 % 256 ∷ v / 65536 % 256 ∷ v / 256 % 256 ∷ v % 256 ∷ []
 unfolding toBe
 toBe4 v = rw last
-
--- one byte is its own number
-pub toBe1 : (v : ℕ) → v < 256 → toBe 1 v ≡ v ∷ []
-unfolding toBe
-toBe1 v h = ap (λ (k : ℕ). k ∷ []) (ap (λ (k : ℕ). k % 256) (last v) ∙ mod-eq-of-lt h)

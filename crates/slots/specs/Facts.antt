@@ -9,10 +9,13 @@ use borrow.Author.Tests.{leb-true, ltb-true, eqb-true, le-leb, lt-ltb, eq-eqb, n
 use Rattle.rules.specs.Every.{every, holds, every-of}
 use Rattle.rules.specs.All.{allBelow, all-at, all-intro}
 use Rattle.rules.specs.Count.{countBelow, count-le}
+use Rattle.rules.specs.declared.Found.the-variants.{At}
+use Rattle.rules.specs.Least.{least-inside}
 use Rattle.geometry.specs.declared.Geometry.{Geometry}
 use Rattle.slots.specs.declared.Slot.{Slot}
 use Rattle.slots.specs.Record.{slotOf, zeroSlot, isUsed}
-use Rattle.slots.specs.Slots.{emptyOk, usedOk, slotOk, usedCount, hasRank, rankCount, slotsOk}
+use Rattle.slots.specs.Find.{emptySlot}
+use Rattle.slots.specs.Slots.{emptyOk, usedOk, slotOk, usedCount, hasRank, rankCount, eachOk, ranksOk, slotsOk}
 
 pub record Used (g : Geometry) (k : ℕ) (r : Slot) : Type 0 where
   pub kind-low : 1 ≤ r .kind
@@ -82,6 +85,12 @@ pub zero-ok : (g : Geometry) (k : ℕ) → slotOk g k zeroSlot ≡ true
 unfolding slotOk every
 zero-ok g k = refl
 
+-- ---- the slot that takes a result
+
+pub empty-inside : (s : List ℕ) (g : Geometry) (i : ℕ) → emptySlot s g ≡ At i → (i < g .s) × (isUsed (slotOf s g i) ≡ false)
+unfolding emptySlot
+empty-inside s g i e = let r = least-inside (λ k. not (isUsed (slotOf s g k))) (g .s) i e in (r .0, not-true _ (r .1))
+
 -- ---- all slots together
 
 -- the slots f are right: k of them are used, each is right, and each rank of 1 to k is one slot's
@@ -93,11 +102,11 @@ pub record Right (g : Geometry) (f : ℕ → Slot) : Type 0 where
   pub once : (n : ℕ) → n < usedIn g f → countBelow (g .s) (λ i. hasRank (n + 1) (f i)) ≡ 1
 
 pub right : (s : List ℕ) (g : Geometry) → slotsOk s g ≡ true → Right g (slotOf s g)
-unfolding slotsOk
+unfolding slotsOk eachOk ranksOk
 right s g e =
     record { ok = λ i l. all-at _ (g .s) i (holds _ 0 e) l; once = λ n l. eqb-true _ _ (all-at _ (usedCount s g) n (holds _ 1 e) l) }
 
 pub right-ok : (s : List ℕ) (g : Geometry) → Right g (slotOf s g) → slotsOk s g ≡ true
-unfolding slotsOk
+unfolding slotsOk eachOk ranksOk
 right-ok s g h =
     every-of _ (all-intro _ (g .s) (h .ok), (all-intro _ (usedCount s g) (λ n l. eq-eqb _ _ (h .once n l)), tt))

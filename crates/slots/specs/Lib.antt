@@ -5,3 +5,4 @@ pub mod Change
 pub mod RecordLaws
 pub mod Facts
 pub mod Stored
+pub mod Turns

@@ -2,13 +2,13 @@
 use mathlib.Core.Path.{_≡_, refl, sym, ap, _∙_}
 use mathlib.Core.List.{List, [], _∷_, _++_}
 use mathlib.Core.Logic.{inl, inr}
-use Prim.Native.Nat.{ℕ, _+_, _^_, _≤_, _<_}
+use Prim.Native.Nat.{ℕ, _+_, _/_, _%_, _^_, _≤_, _<_}
 use native.Mathlib.Omega.{arith}
 use lib.ListN.{length, replicate, length-append}
 use Rattle.octets.specs.Part.{part, length-part}
 use Rattle.octets.specs.Put.{put}
 use Rattle.octets.specs.Octets.{Octets, octets-part}
-use Rattle.octets.specs.Number.{be, num, toBe, length-toBe, num-toBe-lt, be-put, be-put-apart, be-lt}
+use Rattle.octets.specs.Number.{be, num, toBe, length-toBe, num-toBe-lt, be-put, be-put-apart, be-part, be-lt, toBe1, toBe2, toBe4}
 use Rattle.geometry.specs.declared.Geometry.{Geometry}
 use Rattle.geometry.specs.Header.{slotAt}
 use Rattle.slots.specs.declared.Slot.{Slot}
@@ -81,3 +81,34 @@ record-small r l h =
 pub slot-small : (s : List ℕ) (g : Geometry) (i : ℕ) → Octets s → slotAt g i + 16 ≤ length s → Small (slotOf s g i)
 unfolding slotOf
 slot-small s g i h l = record-small (part s (slotAt g i) 16) (length-part s (slotAt g i) 16 l) (octets-part s (slotAt g i) 16 h)
+
+-- ---- as the code reads and writes it
+
+-- the fields read one by one
+pub read-back : (s : List ℕ) (g : Geometry) (i at : ℕ) (r : Slot) → at ≡ slotAt g i
+    → (r .rank ≡ be 4 s at) × (r .rank < 4294967296) → (r .kind ≡ be 1 s (at + 4)) × (r .kind < 256) → (r .drive ≡ be 1 s (at + 5)) × (r .drive < 256)
+    → (r .len ≡ be 2 s (at + 6)) × (r .len < 65536) → (r .block .0 ≡ be 4 s (at + 8)) × (r .block .0 < 4294967296) → (r .last ≡ be 4 s (at + 12)) × (r .last < 4294967296)
+    → (r ≡ slotOf s g i) × Small r
+unfolding slotOf
+read-back s g i at r a p0 p1 p2 p3 p4 p5 =
+    let z : at ≡ at + 0 = omega arith in
+    let field : (n k : ℕ) → k + n ≤ 16 → be n s (at + k) ≡ be n (part s (slotAt g i) 16) k =
+    (λ n k h. ap (λ (x : ℕ). be n s (x + k)) a ∙ sym (be-part n s (slotAt g i) 16 k h)) in (
+      same-slot r (recordOf (part s (slotAt g i) 16)) (p0 .0 ∙ ap (be 4 s) z ∙ field 4 0 (omega arith)) (p1 .0 ∙ field 1 4 (omega arith))
+      (p2 .0 ∙ field 1 5 (omega arith)) (p3 .0 ∙ field 2 6 (omega arith)) (p4 .0 ∙ field 4 8 (omega arith)) (p5 .0 ∙ field 4 12 (omega arith)),
+      record {
+        rank-small = p0 .1;
+        kind-small = p1 .1;
+        drive-small = p2 .1;
+        len-small = p3 .1;
+        block-small = p4 .1;
+        last-small = p5 .1;
+      },
+    )
+
+pub stored-bytes : (r : Slot)
+    → r .rank / 16777216 % 256 ∷ r .rank / 65536 % 256 ∷ r .rank / 256 % 256 ∷ r .rank % 256 ∷ r .kind % 256 ∷ r .drive % 256 ∷ r .len / 256 % 256 ∷ r .len % 256
+    ∷ r .block .0 / 16777216 % 256 ∷ r .block .0 / 65536 % 256 ∷ r .block .0 / 256 % 256 ∷ r .block .0 % 256
+    ∷ r .last / 16777216 % 256 ∷ r .last / 65536 % 256 ∷ r .last / 256 % 256 ∷ r .last % 256 ∷ [] ≡ bytesOf r
+unfolding bytesOf
+stored-bytes r = rw (toBe4 (r .rank), toBe4 (r .block .0), toBe4 (r .last), toBe2 (r .len), toBe1 (r .kind), toBe1 (r .drive))

@@ -43,10 +43,13 @@ hasRank n r = every (isUsed r ∷ eqb (r .rank) n ∷ [])
 abbrev pub rankCount : List ℕ → Geometry → ℕ → ℕ
 rankCount s g n = countBelow (g .s) (λ i. hasRank n (slotOf s g i))
 
+-- each slot is right, where k are used
+unfoldable pub eachOk : List ℕ → Geometry → ℕ → Bool
+eachOk s g k = allBelow (g .s) (λ i. slotOk g k (slotOf s g i))
+
 -- "their ranks are 1 to k, each once"
+unfoldable pub ranksOk : List ℕ → Geometry → ℕ → Bool
+ranksOk s g k = allBelow k (λ n. eqb (rankCount s g (n + 1)) 1)
+
 unfoldable pub slotsOk : List ℕ → Geometry → Bool
-slotsOk s g =
-    every
-    (allBelow (g .s) (λ i. slotOk g (usedCount s g) (slotOf s g i))
-    ∷ allBelow (usedCount s g) (λ n. eqb (rankCount s g (n + 1)) 1)
-    ∷ [])
+slotsOk s g = every (eachOk s g (usedCount s g) ∷ ranksOk s g (usedCount s g) ∷ [])

@@ -1,7 +1,25 @@
-// A shelf's slots: the results that drives retain.
+// A shelf's slots: the results that its drives retain, read, judged, searched and changed.
+mod change;
+mod find;
+mod judge;
+
+pub use change::drop_drive;
+pub use change::next_rank;
+pub use change::release;
+pub use change::retain;
+pub use change::write_record;
+pub use find::empty_slot;
+pub use find::newest;
+pub use judge::slots_ok;
+pub use judge::used_count;
 use geometry::Block;
 use geometry::Geometry;
 use rules::Found;
+ghost use mathlib.Core.Path.{_≡_};
+ghost use Prim.Native.Nat.{_<_};
+ghost use Rattle.geometry.specs.Frame.{Framed};
+ghost use Rattle.slots.specs.Record.{slotOf, isUsed};
+ghost use Rattle.slots.specs.RecordLaws.{Small};
 
 // A slot's record. `last` is its last four bytes, which are zero.
 pub struct Slot {
@@ -17,4 +35,27 @@ pub struct Slot {
 pub struct Best {
     pub top: usize,
     pub found: Found,
+}
+
+// Slot i's record.
+pub fn read_slot(image: &[u8], g: Geometry, i: usize) -> Slot
+    requires { ⌜ Framed (now image) g × (i < g .s) ⌝ }
+    ensures { λ r. ⌜ (r ≡ slotOf (now (image .entry)) g i) × Small r ⌝ }
+{
+    let at = g.slot_at(i);
+    let block = Block(octets::be4(image, at + 8));
+    Slot {
+        rank: octets::be4(image, at),
+        kind: octets::be1(image, at + 4),
+        drive: octets::be1(image, at + 5),
+        len: octets::be2(image, at + 6),
+        block: block,
+        last: octets::be4(image, at + 12),
+    }
+}
+
+pub fn is_used(r: Slot) -> bool
+    ensures { λ y. ⌜ y ≡ isUsed r ⌝ }
+{
+    r.kind != 0
 }

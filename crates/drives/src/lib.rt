@@ -1,0 +1,123 @@
+// The drive table of a shelf's image: each drive's state and address, the lookup of addresses, and
+// the marking of a drive.
+use geometry::Address;
+use geometry::Geometry;
+use rules::Found;
+ghost use mathlib.Core.Path.{_≡_};
+ghost use Prim.Native.Nat.{_<_};
+ghost use Rattle.geometry.specs.Frame.{Framed};
+ghost use Rattle.drives.specs.Table.{stateOf, addressOf, failed, statesOk, newAddress, addressesOk, tableOk, driveOf, marked};
+
+// Drive i's state byte.
+pub fn state(image: &[u8], g: Geometry, i: usize) -> usize
+    requires { ⌜ Framed (now image) g × (i < g .d) ⌝ }
+    ensures { λ r. ⌜ (r ≡ stateOf (now (image .entry)) g i) × (r < 256) ⌝ }
+{
+    octets::byte(image, g.entry_at(i))
+}
+
+// Has drive i failed?
+pub fn is_failed(image: &[u8], g: Geometry, i: usize) -> bool
+    requires { ⌜ Framed (now image) g × (i < g .d) ⌝ }
+    ensures { λ r. ⌜ r ≡ failed (now (image .entry)) g i ⌝ }
+{
+    state(image, g, i) == 1
+}
+
+// Drive i's address.
+pub fn address(image: &[u8], g: Geometry, i: usize) -> Address
+    requires { ⌜ Framed (now image) g × (i < g .d) ⌝ }
+    ensures { λ r. ⌜ (r .0 ≡ addressOf (now (image .entry)) g i) × (r .0 < 16777216) ⌝ }
+{
+    Address(octets::be3(image, g.entry_at(i) + 1))
+}
+
+// The drive with address a, compared as a whole number: one above FFFFFFh is no drive's.
+pub fn find_drive(image: &[u8], g: Geometry, a: Address) -> Found
+    requires { ⌜ Framed (now image) g ⌝ }
+    ensures { λ r. ⌜ r ≡ driveOf (now (image .entry)) g (a .0) ⌝ }
+{
+    let n = g.d;
+    let mut i = 0;
+    while i < n {
+        let own = address(image, g, i);
+        if own.0 == a.0 {
+            return Found::At(i);
+        }
+        i += 1;
+    }
+    Found::Nothing
+}
+
+// Is every state 0 or 1?
+fn states_ok(image: &[u8], g: Geometry) -> bool
+    requires { ⌜ Framed (now image) g ⌝ }
+    ensures { λ r. ⌜ r ≡ statesOk (now (image .entry)) g ⌝ }
+{
+    let n = g.d;
+    let mut i = 0;
+    while i < n {
+        if 1 < state(image, g, i) {
+            return false;
+        }
+        i += 1;
+    }
+    true
+}
+
+// Is drive i's address none of an earlier drive?
+fn new_address(image: &[u8], g: Geometry, i: usize) -> bool
+    requires { ⌜ Framed (now image) g × (i < g .d) ⌝ }
+    ensures { λ r. ⌜ r ≡ newAddress (now (image .entry)) g i ⌝ }
+{
+    let own = address(image, g, i);
+    let mut j = 0;
+    while j < i {
+        let earlier = address(image, g, j);
+        if earlier.0 == own.0 {
+            return false;
+        }
+        j += 1;
+    }
+    true
+}
+
+// Do all addresses differ?
+fn addresses_ok(image: &[u8], g: Geometry) -> bool
+    requires { ⌜ Framed (now image) g ⌝ }
+    ensures { λ r. ⌜ r ≡ addressesOk (now (image .entry)) g ⌝ }
+{
+    let n = g.d;
+    let mut i = 0;
+    while i < n {
+        if !new_address(image, g, i) {
+            return false;
+        }
+        i += 1;
+    }
+    true
+}
+
+// Are the states and the addresses right?
+pub fn table_ok(image: &[u8], g: Geometry) -> bool
+    requires { ⌜ Framed (now image) g ⌝ }
+    ensures { λ r. ⌜ r ≡ tableOk (now (image .entry)) g ⌝ }
+{
+    if !states_ok(image, g) {
+        return false;
+    }
+    if !addresses_ok(image, g) {
+        return false;
+    }
+    true
+}
+
+// Writes drive i's state byte.
+pub fn mark(image: &mut [u8], g: Geometry, i: usize, state: usize)
+    requires { ⌜ Framed (now image) g × (i < g .d) × (state < 256) ⌝ }
+    ensures { λ _. ⌜ now (image .exit) ≡ marked (now (image .entry)) g i state ⌝ }
+{
+    let at = g.entry_at(i);
+    let b = [state as u8];
+    octets::put_at(image, at, &b);
+}
