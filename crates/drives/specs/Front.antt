@@ -1,22 +1,21 @@
 -- What lies before the slots decides header and table: a change from the slots on leaves both. Assumes nothing.
 use Prim.Native.Nat.{ℕ, _+_, _≤_, _<_}
-use native.Mathlib.Nat.{zero-add}
 use native.Mathlib.Omega.{arith}
 use mathlib.Core.List.{List}
 use mathlib.Core.Bool.{not}
-use mathlib.Core.Path.{_≡_, sym, ap, ap₂, _∙_}
-use lib.ListN.{getD}
-use lib.Dec.{leb, eqb, lit≤}
-use Rattle.octets.specs.Part.{part, getD-part}
+use mathlib.Core.Path.{_≡_, ap, ap₂}
+use lib.Dec.{leb, eqb}
+use Rattle.octets.specs.Part.{part, front-byte}
 use Rattle.octets.specs.Put.{put}
 use Rattle.octets.specs.PutPut.{part-put-below}
-use Rattle.octets.specs.Number.{be, be-part}
+use Rattle.octets.specs.Number.{front-be}
 use Rattle.rules.specs.Every.{every-ext}
 use Rattle.rules.specs.All.{all-ext}
 use Rattle.rules.specs.Least.{least-ext}
 use Rattle.geometry.specs.declared.Geometry.{Geometry}
 use Rattle.geometry.specs.Header.{geometryOf, entryAt}
 use Rattle.geometry.specs.Frame.{Placed}
+use Rattle.geometry.specs.Kept.{front-geometry}
 use Rattle.drives.specs.Table.{stateOf, addressOf, failed, statesOk, newAddress, addressesOk, tableOk, driveOf}
 
 -- ---- the table is its entries
@@ -34,25 +33,6 @@ module _ (s t : List ℕ) (g : Geometry) where
     pub drive-ext : (a : ℕ) → driveOf s g a ≡ driveOf t g a
     unfolding driveOf
     drive-ext a = least-ext _ _ (g .d) (λ i l. ap (λ (k : ℕ). eqb k a) (h i l))
-
--- ---- equal fronts: the same bytes, the same numbers
-
-module _ (s t : List ℕ) (n : ℕ) (e : part s 0 n ≡ part t 0 n) where
-  pub front-byte : (i : ℕ) → i < n → getD s i 0 ≡ getD t i 0
-  front-byte i l =
-      let own : (xs : List ℕ) → getD (part xs 0 n) i 0 ≡ getD xs i 0 = (λ xs. getD-part xs 0 n i l ∙ ap (λ (k : ℕ). getD xs k 0) (zero-add i)) in
-      sym (own s) ∙ ap (λ (xs : List ℕ). getD xs i 0) e ∙ own t
-
-  pub front-be : (k a : ℕ) → a + k ≤ n → be k s a ≡ be k t a
-  front-be k a l =
-      let own : (xs : List ℕ) → be k (part xs 0 n) a ≡ be k xs a = (λ xs. be-part k xs 0 n a l ∙ ap (be k xs) (zero-add a)) in
-      sym (own s) ∙ ap (λ (xs : List ℕ). be k xs a) e ∙ own t
-
-  pub front-geometry : 32 ≤ n → geometryOf s ≡ geometryOf t
-  front-geometry h =
-      let field : (a : ℕ) → a + 4 ≤ 32 → be 4 s a ≡ be 4 t a = (λ a l. front-be 4 a (omega arith)) in
-      rw (field 0 (lit≤ tt), field 4 (lit≤ tt), field 8 (lit≤ tt), field 12 (lit≤ tt))
-      (rw (field 16 (lit≤ tt), field 20 (lit≤ tt), field 24 (lit≤ tt), field 28 (lit≤ tt)))
 
 -- ---- s and t agree up to the slots
 

@@ -1,23 +1,32 @@
--- A write past the header leaves it. Assumes nothing.
-use mathlib.Core.Path.{_≡_}
-use mathlib.Core.Logic.{inr, inl}
-use mathlib.Core.List.{List}
+-- What leaves the header leaves the geometry, and with the length the frame. Assumes nothing.
+use mathlib.Core.Path.{_≡_, ap, ap₂}
+use mathlib.Core.Bool.{Bool}
+use mathlib.Core.List.{List, [], _∷_}
 use Prim.Native.Nat.{ℕ, _+_, _≤_}
 use native.Mathlib.Omega.{arith}
+use lib.Dec.{leb, eqb, lit≤}
+use lib.ListN.{length}
+use Rattle.octets.specs.Part.{part}
 use Rattle.octets.specs.Put.{put}
-use Rattle.octets.specs.Number.{be, be-put-apart}
+use Rattle.octets.specs.PutPut.{part-put-below}
+use Rattle.octets.specs.Number.{be, front-be}
+use Rattle.rules.specs.Every.{every}
 use Rattle.geometry.specs.declared.Geometry.{Geometry}
-use Rattle.geometry.specs.Header.{geometryOf}
+use Rattle.geometry.specs.Header.{geometryOf, rangesOk, offsetsOk, endOf, framedOk}
 
+-- images with the same front, header included
+pub front-geometry : (s t : List ℕ) (n : ℕ) → part s 0 n ≡ part t 0 n → 32 ≤ n → geometryOf s ≡ geometryOf t
+front-geometry s t n e h =
+    let field : (a : ℕ) → a + 4 ≤ 32 → be 4 s a ≡ be 4 t a = (λ a l. front-be s t n e 4 a (omega arith)) in
+    rw (field 0 (lit≤ tt), field 4 (lit≤ tt), field 8 (lit≤ tt), field 12 (lit≤ tt))
+    (rw (field 16 (lit≤ tt), field 20 (lit≤ tt), field 24 (lit≤ tt), field 28 (lit≤ tt)))
+
+-- a write past the header
 pub geometry-put : (s : List ℕ) (at : ℕ) (ys : List ℕ) → 32 ≤ at → geometryOf (put s at ys) ≡ geometryOf s
-geometry-put s at ys h =
-    let field : (a : ℕ) → a + 4 ≤ 32 → be 4 (put s at ys) a ≡ be 4 s a = (λ a l. be-put-apart 4 s at ys a (inl (omega arith))) in
-    let e0 = field 0 (omega arith) in
-    let e1 = field 4 (omega arith) in
-    let e2 = field 8 (omega arith) in
-    let e3 = field 12 (omega arith) in
-    let e4 = field 16 (omega arith) in
-    let e5 = field 20 (omega arith) in
-    let e6 = field 24 (omega arith) in
-    let e7 = field 28 (omega arith) in
-    rw (e0, e1, e2, e3, e4, e5, e6, e7)
+geometry-put s at ys h = front-geometry (put s at ys) s 32 (part-put-below s at ys 0 32 h) (lit≤ tt)
+
+-- the same length and geometry: framed alike
+pub framed-alike : (s t : List ℕ) → length s ≡ length t → geometryOf s ≡ geometryOf t → framedOk s ≡ framedOk t
+unfolding framedOk
+framed-alike s t n e =
+    ap₂ (λ (k : ℕ) (g : Geometry). every (leb 32 k ∷ rangesOk g ∷ offsetsOk g ∷ eqb k (endOf g) ∷ [])) n e

@@ -2,7 +2,7 @@
 use mathlib.Core.Path.{_≡_, refl, sym, ap, ap₂, _∙_}
 use mathlib.Core.Logic.{_⊎_}
 use Prim.Native.Nat.{ℕ, zero, suc, _+_, _*_, _/_, _%_, _^_, _≤_, _<_}
-use native.Mathlib.Nat.{suc-inj, pow-suc, pow-succ', mod-eq-of-lt, zero-lt-suc, mod-lt, mod-one, mul-assoc}
+use native.Mathlib.Nat.{suc-inj, pow-suc, pow-succ', mod-eq-of-lt, zero-lt-suc, mod-lt, mod-one, mul-assoc, zero-add}
 use native.Mathlib.Omega.{arith}
 use mathlib.Core.List.{List, [], _∷_, _++_}
 use lib.ListN.{length, getD, length-append}
@@ -112,6 +112,12 @@ be-part n xs at m a h = ap num (part-part xs at m a n h)
 
 pub be-put-apart : (n : ℕ) (xs : List ℕ) (at : ℕ) (ys : List ℕ) (a : ℕ) → (a + n ≤ at) ⊎ (at + length ys ≤ a) → be n (put xs at ys) a ≡ be n xs a
 be-put-apart n xs at ys a w = ap num (part-put-apart xs at ys a n w)
+
+-- two lists with the same front have the same numbers there
+pub front-be : (s t : List ℕ) (n : ℕ) → part s 0 n ≡ part t 0 n → (k a : ℕ) → a + k ≤ n → be k s a ≡ be k t a
+front-be s t n e k a l =
+    let own : (xs : List ℕ) → be k (part xs 0 n) a ≡ be k xs a = (λ xs. be-part k xs 0 n a l ∙ ap (be k xs) (zero-add a)) in
+    sym (own s) ∙ ap (λ (xs : List ℕ). be k xs a) e ∙ own t
 
 -- ---- as the code writes it
 

@@ -1,6 +1,7 @@
 -- A part of a list of bytes, and its laws. Assumes nothing.
 use mathlib.Core.Path.{_≡_, sym, ap, _∙_}
 use Prim.Native.Nat.{ℕ, zero, suc, _+_, _-_, _≤_, _<_}
+use native.Mathlib.Nat.{zero-add}
 use native.Mathlib.Numerals.{add-one}
 use native.Mathlib.Omega.{arith}
 use mathlib.Core.List.{List, [], _∷_, _++_}
@@ -67,3 +68,9 @@ rest-part xs at n h =
 pub part-append-front : (xs ys : List ℕ) (n : ℕ) → length xs ≡ n → part (xs ++ ys) 0 n ≡ xs
 unfolding part
 part-append-front xs ys n e = take-at xs ys n e
+
+-- two lists with the same front have the same bytes there
+pub front-byte : (s t : List ℕ) (n : ℕ) → part s 0 n ≡ part t 0 n → (i : ℕ) → i < n → getD s i 0 ≡ getD t i 0
+front-byte s t n e i l =
+    let own : (xs : List ℕ) → getD (part xs 0 n) i 0 ≡ getD xs i 0 = (λ xs. getD-part xs 0 n i l ∙ ap (λ (k : ℕ). getD xs k 0) (zero-add i)) in
+    sym (own s) ∙ ap (λ (xs : List ℕ). getD xs i 0) e ∙ own t

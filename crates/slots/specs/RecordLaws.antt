@@ -95,7 +95,7 @@ read-back s g i at r a p0 p1 p2 p3 p4 p5 =
     let field : (n k : ℕ) → k + n ≤ 16 → be n s (at + k) ≡ be n (part s (slotAt g i) 16) k =
     (λ n k h. ap (λ (x : ℕ). be n s (x + k)) a ∙ sym (be-part n s (slotAt g i) 16 k h)) in (
       same-slot r (recordOf (part s (slotAt g i) 16)) (p0 .0 ∙ ap (be 4 s) z ∙ field 4 0 (omega arith)) (p1 .0 ∙ field 1 4 (omega arith))
-      (p2 .0 ∙ field 1 5 (omega arith)) (p3 .0 ∙ field 2 6 (omega arith)) (p4 .0 ∙ field 4 8 (omega arith)) (p5 .0 ∙ field 4 12 (omega arith)),
+          (p2 .0 ∙ field 1 5 (omega arith)) (p3 .0 ∙ field 2 6 (omega arith)) (p4 .0 ∙ field 4 8 (omega arith)) (p5 .0 ∙ field 4 12 (omega arith)),
       record {
         rank-small = p0 .1;
         kind-small = p1 .1;

@@ -1,62 +1,50 @@
+-- `geometry::Geometry::ranges_ok` meets its contract. Assumes nothing.
 use Rattle.rules.specs.Tests.{tests}
 use Rattle.rules.specs.Every.{every}
 use Rattle.geometry.specs.Header.{rangesOk}
 use Rattle.geometry.proofs.Geometry.ranges_ok.Statement.{statement}
 use Rattle.geometry.proofs.Geometry.ranges_ok.Tie as tie
-use Rattle.geometry.proofs.Geometry.ranges_ok.Reads as reads
-use Rattle.geometry.proofs.Geometry.ranges_ok.Lts as lts
 
--- src/lib.rt:55:13
 returns : tie.Need-returns
 unfolding rangesOk every
 returns c = search tests
 
--- src/lib.rt:58:13
 returns-2 : tie.Need-returns-2
 unfolding rangesOk every
 returns-2 c = search tests
 
--- src/lib.rt:61:13
 returns-3 : tie.Need-returns-3
 unfolding rangesOk every
 returns-3 c = search tests
 
--- src/lib.rt:64:13
 returns-4 : tie.Need-returns-4
 unfolding rangesOk every
 returns-4 c = search tests
 
--- src/lib.rt:67:13
 returns-5 : tie.Need-returns-5
 unfolding rangesOk every
 returns-5 c = search tests
 
--- src/lib.rt:70:13
 returns-6 : tie.Need-returns-6
 unfolding rangesOk every
 returns-6 c = search tests
 
--- src/lib.rt:73:13
 returns-7 : tie.Need-returns-7
 unfolding rangesOk every
 returns-7 c = search tests
 
--- src/lib.rt:76:13
 returns-8 : tie.Need-returns-8
 unfolding rangesOk every
 returns-8 c = search tests
 
--- src/lib.rt:79:13
 returns-9 : tie.Need-returns-9
 unfolding rangesOk every
 returns-9 c = search tests
 
--- src/lib.rt:82:13
 returns-10 : tie.Need-returns-10
 unfolding rangesOk every
 returns-10 c = search tests
 
--- src/lib.rt:46:5
 returns-11 : tie.Need-returns-11
 unfolding rangesOk every
 returns-11 c = search tests

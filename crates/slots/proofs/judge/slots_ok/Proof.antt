@@ -1,39 +1,34 @@
-use mathlib.Core.Path.{_≡_, sym, ap, _∙_}
+-- `slots::judge::slots_ok` meets its contract. Assumes nothing.
+use mathlib.Core.Path.{sym, ap, _∙_}
 use borrow.Author.Tests.{not-true, not-false}
+use borrow.Author.Needs.{needs}
 use Rattle.rules.specs.Every.{every, fails}
 use Rattle.rules.specs.Tests.{tests}
 use Rattle.slots.specs.Slots.{eachOk, ranksOk, slotsOk}
-use borrow.Author.Needs.{needs}
 use Rattle.slots.proofs.judge.slots_ok.Statement.{statement}
 use Rattle.slots.proofs.judge.slots_ok.Tie as tie
-use Rattle.slots.proofs.judge.slots_ok.Reads as reads
-use Rattle.slots.proofs.judge.slots_ok.Lts as lts
-use Rattle.slots.proofs.judge.each_ok.Reads as each-ok-reads
-use Rattle.slots.proofs.judge.ranks_ok.Reads as ranks-ok-reads
-use Rattle.slots.proofs.judge.used_count.Reads as used-count-reads
 
--- src/judge.rt:159:9
-used-count-requires : tie.Need-used-count-requires
-used-count-requires c κs = search needs
-
--- src/judge.rt:160:9
-each-ok-requires : tie.Need-each-ok-requires
-each-ok-requires c κs = search needs
-
--- src/judge.rt:161:9
 returns : tie.Need-returns
 unfolding slotsOk
-returns c = sym (fails _ 0 (ap (eachOk (c .before .before .before .before .args .image .now) (c .before .before .before .before .args .g)) (sym (c .before .before .used-count .ensures .0)) ∙ sym (c .before .each-ok .ensures) ∙ not-true _ (c .if1 .taken)))
+returns c =
+    let args = c .before .before .before .before .args in
+    let used-count = c .before .before .used-count in
+    let each-ok = c .before .each-ok in
+    let if1 = c .if1 in
+    sym (fails _ 0 (ap (eachOk (args .image .now) (args .g)) (sym (used-count .ensures .0)) ∙ sym (each-ok .ensures) ∙ not-true _ (if1 .taken)))
 
--- src/judge.rt:163:5
-ranks-ok-requires : tie.Need-ranks-ok-requires
-ranks-ok-requires c κs = search needs
-
--- src/judge.rt:155:1
 returns-2 : tie.Need-returns-2
 unfolding slotsOk every
-returns-2 c = c .ranks-ok .ensures ∙ ap (ranksOk (c .before .before .before .before .before .args .image .now) (c .before .before .before .before .before .args .g)) (c .before .before .before .used-count .ensures .0) ∙ search (tests, ap (eachOk (c .before .before .before .before .before .args .image .now) (c .before .before .before .before .before .args .g)) (sym (c .before .before .before .used-count .ensures .0)) ∙ sym (c .before .before .each-ok .ensures) ∙ not-false _ (c .before .if1 .left))
+returns-2 c =
+    let ranks-ok = c .ranks-ok in
+    let args = c .before .before .before .before .before .args in
+    let used-count = c .before .before .before .used-count in
+    let each-ok = c .before .before .each-ok in
+    let if1 = c .before .if1 in
+    ranks-ok .ensures
+    ∙ ap (ranksOk (args .image .now) (args .g)) (used-count .ensures .0)
+    ∙ search (tests, ap (eachOk (args .image .now) (args .g)) (sym (used-count .ensures .0)) ∙ sym (each-ok .ensures) ∙ not-false _ (if1 .left))
 
 pub slots-ok-spec : {M : Type 1} → statement M
 slots-ok-spec =
-    tie.close (tie.spec used-count-requires each-ok-requires returns ranks-ok-requires returns-2)
+    tie.close (tie.spec (λ c κs. search needs) (λ c κs. search needs) returns (λ c κs. search needs) returns-2)

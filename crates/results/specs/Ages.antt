@@ -1,0 +1,36 @@
+-- The used slots by age, newest first.
+-- Assumes nothing.
+use Prim.Native.Nat.{ℕ, zero, suc}
+use mathlib.Core.Bool.{not}
+use mathlib.Core.List.{List, [], _∷_}
+use lib.Dec.{eqb}
+use Rattle.rules.specs.declared.Found.{Found}
+use Rattle.rules.specs.declared.Found.the-variants.{At, Nothing}
+use Rattle.rules.specs.Least.{leastBelow}
+use Rattle.geometry.specs.declared.Geometry.{Geometry}
+use Rattle.slots.specs.declared.Slot.{Slot}
+use Rattle.slots.specs.Slots.{hasRank}
+use Rattle.slots.specs.Facts.{usedIn}
+use Rattle.results.specs.Lists.{keeping}
+
+-- what was found, or 0
+abbrev pub orZero : Found → ℕ
+orZero (At i) = i
+orZero Nothing = 0
+
+-- the slot of rank n, or 0 where none has it
+unfoldable pub slotRanked : Geometry → (ℕ → Slot) → ℕ → ℕ
+slotRanked g f n = orZero (leastBelow (g .s) (λ i. hasRank n (f i)))
+
+-- the slots of ranks n, n - 1, .. 1
+unfoldable pub agesTo : Geometry → (ℕ → Slot) → ℕ → List ℕ
+agesTo g f zero = []
+agesTo g f (suc n) = slotRanked g f (suc n) ∷ agesTo g f n
+
+-- "their ranks are 1 to k, each once; the newest has rank k"
+abbrev pub ages : Geometry → (ℕ → Slot) → List ℕ
+ages g f = agesTo g f (usedIn g f)
+
+-- the other numbers of a list, in order
+abbrev pub without : ℕ → List ℕ → List ℕ
+without x xs = keeping (λ i. not (eqb i x)) xs

@@ -1,0 +1,119 @@
+-- All results of a drive go: the slots stay right, the results of the other drives stay in order, and no byte outside the slots' records
+-- changes.
+-- Assumes nothing.
+use Prim.Native.Nat.{ℕ, zero, suc, _+_, _≤_, _<_}
+use native.Mathlib.Nat.{not-suc-le-zero}
+use native.Mathlib.Omega.{arith}
+use mathlib.Core.Bool.{Bool, true, false, not, true≢false}
+use mathlib.Core.Path.{_≡_, refl, sym, ap, subst, _∙_}
+use mathlib.Core.Logic.{⊎-elim}
+use mathlib.Core.List.{List, List·Memᴰ, Memᴰ·of-map}
+use lib.Dec.{eqb}
+use lib.ListN.{length}
+use borrow.Author.Tests.{eqb-true, eq-eqb, ne-eqb, not-false}
+use Rattle.octets.specs.Part.{part}
+use Rattle.rules.specs.Cases.{last-or-below}
+use Rattle.rules.specs.Every.{every, holds, every-of, fails}
+use Rattle.geometry.specs.declared.Geometry.{Geometry}
+use Rattle.geometry.specs.Frame.{Framed, framed-same}
+use Rattle.slots.specs.declared.Slot.{Slot}
+use Rattle.slots.specs.Record.{slotOf, isUsed, zeroSlot}
+use Rattle.slots.specs.Slots.{slotsOk}
+use Rattle.slots.specs.Facts.{right}
+use Rattle.slots.specs.Change.{released, ofDrive, dropOne, droppedTo, dropped}
+use Rattle.results.specs.Lists.{on-test, keeping, keep-all, keep-keep}
+use Rattle.results.specs.Ages.{ages}
+use Rattle.results.specs.Members.{ages-in}
+use Rattle.results.specs.Results.{Result, resultAt, results}
+use Rattle.results.specs.Outside.{Outside}
+use Rattle.results.specs.Release.{length-released, release-part, release-zeroed, release-slot, release-ok, release-results}
+
+-- a result of another drive
+abbrev pub ofOther : ℕ → Result → Bool
+ofOther drive r = not (eqb (r .drive) drive)
+
+-- t is s without some results of the drive, and its first n slots have none
+record Emptied (s : List ℕ) (g : Geometry) (drive n : ℕ) (t : List ℕ) : Type 0 where
+  as-long : length t ≡ length s
+  ok : slotsOk t g ≡ true
+  none : (j : ℕ) → j < n → ofDrive drive (slotOf t g j) ≡ false
+  others : keeping (ofOther drive) (results t g) ≡ keeping (ofOther drive) (results s g)
+
+module _ (s : List ℕ) (g : Geometry) (f : Framed s g) (drive n : ℕ) (t : List ℕ) (l : n < g .s) (h : Emptied s g drive n t) where
+  ft : Framed t g
+  ft = framed-same s t g f (h .as-long)
+
+  emptied-miss : ofDrive drive (slotOf t g n) ≡ false → Emptied s g drive (suc n) t
+  emptied-miss e =
+      record {
+        as-long = h .as-long;
+        ok = h .ok;
+        none = λ j lj. ⊎-elim (λ q. rw q e) (λ lt. h .none j lt) (last-or-below lj);
+        others = h .others;
+      }
+
+  emptied-others : ofDrive drive (slotOf t g n) ≡ true → keeping (ofOther drive) (results (released t g n) g) ≡ keeping (ofOther drive) (results t g)
+  unfolding results resultAt
+  emptied-others e =
+      ap (keeping (ofOther drive)) (release-results t g ft (h .ok) n l (holds _ 0 e))
+      ∙ keep-keep (resultAt t g) (ofOther drive) (λ i. not (eqb i n)) (ages g (slotOf t g))
+      (λ i q. ap not (ap (λ (j : ℕ). eqb (slotOf t g j .drive) drive) (eqb-true i n (not-false _ q)) ∙ holds _ 1 e))
+
+  emptied-hit : ofDrive drive (slotOf t g n) ≡ true → Emptied s g drive (suc n) (released t g n)
+  emptied-hit e =
+      record {
+        as-long = length-released t g n ∙ h .as-long;
+        ok = release-ok t g ft (h .ok) n l (holds _ 0 e);
+        none = λ j lj. ⊎-elim (λ q. ap (ofDrive drive) (ap (slotOf (released t g n) g) q ∙ release-zeroed t g ft (h .ok) n l) ∙ fails _ 0 refl)
+            (λ lt. ap (ofDrive drive) (release-slot t g ft (h .ok) n l j (omega arith) (λ q. omega arith)) ∙ h .none j lt) (last-or-below lj);
+        others = emptied-others e ∙ h .others;
+      }
+
+pub length-dropped : (s : List ℕ) (g : Geometry) (drive : ℕ) → length (dropped s g drive) ≡ length s
+unfolding dropped droppedTo dropOne
+length-dropped s g drive = to (g .s)
+  where
+    to : (n : ℕ) → length (droppedTo g drive n s) ≡ length s
+    to zero = refl
+    to (suc n) =
+        let t = droppedTo g drive n s in
+        on-test (λ (r : List ℕ). length r ≡ length t) (ofDrive drive (slotOf t g n)) (λ h. length-released t g n) (λ h. refl) ∙ to n
+
+pub drop-part : (s : List ℕ) (g : Geometry) (drive a m : ℕ) → Outside g a m → part (dropped s g drive) a m ≡ part s a m
+unfolding dropped droppedTo dropOne
+drop-part s g drive a m o = to (g .s) (omega arith)
+  where
+    to : (n : ℕ) → n ≤ g .s → part (droppedTo g drive n s) a m ≡ part s a m
+    to zero l = refl
+    to (suc n) l =
+        let t = droppedTo g drive n s in
+        on-test (λ (r : List ℕ). part r a m ≡ part t a m) (ofDrive drive (slotOf t g n)) (λ h. release-part t g n a m l o) (λ h. refl) ∙ to n (omega arith)
+
+module _ (s : List ℕ) (g : Geometry) (f : Framed s g) (ok : slotsOk s g ≡ true) (drive : ℕ) where
+  emptied : (n : ℕ) → n ≤ g .s → Emptied s g drive n (droppedTo g drive n s)
+  unfolding droppedTo dropOne
+  emptied zero l = record { as-long = refl; ok = ok; none = λ j lj. absurd (not-suc-le-zero lj); others = refl }
+  emptied (suc n) l =
+      let t = droppedTo g drive n s in
+      let h = emptied n (omega arith) in
+      on-test (Emptied s g drive (suc n)) (ofDrive drive (slotOf t g n)) (emptied-hit s g f drive n t l h) (emptied-miss s g f drive n t l h)
+
+  all-emptied : Emptied s g drive (g .s) (dropped s g drive)
+  unfolding dropped
+  all-emptied = emptied (g .s) (omega arith)
+
+  pub drop-ok : slotsOk (dropped s g drive) g ≡ true
+  drop-ok = all-emptied .ok
+
+  no-more : (r : Result) → List·Memᴰ r (results (dropped s g drive) g) → ofOther drive r ≡ true
+  unfolding results resultAt
+  no-more r m =
+      let t = dropped s g drive in
+      let w = Memᴰ·of-map (resultAt t g) (ages g (slotOf t g)) m in
+      let b = ages-in g (slotOf t g) (right t g drop-ok) (w .0) (w .1) in
+      rw (← w .2) (ap not (ne-eqb (slotOf t g (w .0) .drive) drive
+      (λ q. true≢false (sym (every-of _ (b .1, (eq-eqb _ _ q, tt))) ∙ all-emptied .none (w .0) (b .0)))))
+
+  -- "Hard reset drops all results of its drive; the others keep their order"
+  pub drop-results : results (dropped s g drive) g ≡ keeping (ofOther drive) (results s g)
+  drop-results = sym (keep-all (ofOther drive) (results (dropped s g drive) g) no-more) ∙ all-emptied .others

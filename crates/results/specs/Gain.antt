@@ -1,0 +1,76 @@
+-- An empty slot takes a result at rank k + 1: the slots stay right, and it is the newest.
+-- Assumes nothing.
+use Prim.Native.Nat.{ℕ, suc, _+_, _≤_, _<_}
+use native.Mathlib.Numerals.{add-one}
+use native.Mathlib.Omega.{arith}
+use mathlib.Core.Bool.{true, false, true≢false}
+use mathlib.Core.Path.{_≡_, refl, sym, ap, ap₂, _∙_}
+use mathlib.Core.Logic.{⊎-elim}
+use mathlib.Core.List.{List, _∷_}
+use Rattle.rules.specs.Cases.{either, same, last-or-below}
+use Rattle.rules.specs.Count.{countBelow, count-ext, count-gone, count-just}
+use Rattle.geometry.specs.declared.Geometry.{Geometry}
+use Rattle.slots.specs.declared.Slot.{Slot}
+use Rattle.slots.specs.Record.{isUsed}
+use Rattle.slots.specs.Slots.{hasRank, slotOk}
+use Rattle.slots.specs.Facts.{Used, used-ok, usedIn, Right}
+use Rattle.results.specs.Ages.{slotRanked, agesTo, ages}
+use Rattle.results.specs.Ranks.{has-rank, not-rank, used-is, ranked-only, ranked-same, used-at, used-ranked, empty-any, ages-same, ages-more}
+
+-- the slots f′ are f with a result in x, which was empty
+pub record Gained (g : Geometry) (f f′ : ℕ → Slot) (x : ℕ) : Type 0 where
+  pub inside : x < g .s
+  pub empty : isUsed (f x) ≡ false
+  pub new : Used g (usedIn g f + 1) (f′ x)
+  pub top : f′ x .rank ≡ usedIn g f + 1
+  pub rest : (j : ℕ) → j < g .s → (j ≡ x → ⊥) → f′ j ≡ f j
+
+module _ (g : Geometry) (f f′ : ℕ → Slot) (x : ℕ) (h : Right g f) (c : Gained g f f′ x) where
+  new-used : isUsed (f′ x) ≡ true
+  new-used = used-is g (usedIn g f + 1) (f′ x) (c .new)
+
+  pub gain-count : usedIn g f′ ≡ usedIn g f + 1
+  gain-count = count-gone (λ i. isUsed (f′ i)) (λ i. isUsed (f i)) (g .s) x (c .inside) new-used (c .empty) (λ j l ne. ap isUsed (sym (c .rest j l ne)))
+
+  gain-ok : (j : ℕ) → j < g .s → slotOk g (usedIn g f + 1) (f′ j) ≡ true
+  gain-ok j l =
+      let k = usedIn g f in
+      ⊎-elim (λ e. rw e (used-ok g (k + 1) (f′ x) new-used (c .new)))
+      (λ ne. ap (slotOk g (k + 1)) (c .rest j l ne)
+      ∙ ⊎-elim (λ u. let w = used-at g f h j l u in used-ok g (k + 1) (f j) u (used-ranked g k (k + 1) (f j .rank) (f j) w (w .rank-low) (omega arith)))
+      (λ u. empty-any g k (k + 1) (f j) u (h .ok j l)) (either (isUsed (f j))))
+      (same j x)
+
+  -- a rank of 1 to k is the slot's that had it
+  old-rank : (n : ℕ) → n ≤ usedIn g f → (j : ℕ) → j < g .s → hasRank n (f′ j) ≡ hasRank n (f j)
+  old-rank n hn j l =
+      ⊎-elim
+      (λ e. rw e (not-rank n (f′ x) (λ u t. omega (arith, c .top)) ∙ sym (not-rank n (f x) (λ u t. true≢false (sym u ∙ c .empty)))))
+      (λ ne. ap (hasRank n) (c .rest j l ne))
+      (same j x)
+
+  -- rank k + 1 is no other's
+  new-rank : (j : ℕ) → j < g .s → (j ≡ x → ⊥) → hasRank (usedIn g f + 1) (f′ j) ≡ false
+  new-rank j l ne =
+      ap (hasRank (usedIn g f + 1)) (c .rest j l ne)
+      ∙ not-rank (usedIn g f + 1) (f j) (λ u e. let w = used-at g f h j l u in omega arith)
+
+  top-rank : hasRank (usedIn g f + 1) (f′ x) ≡ true
+  top-rank = has-rank (usedIn g f + 1) (f′ x) new-used (c .top)
+
+  gain-once : (n : ℕ) → n < usedIn g f + 1 → countBelow (g .s) (λ i. hasRank (n + 1) (f′ i)) ≡ 1
+  gain-once n l =
+      ⊎-elim (λ e. rw e (count-just (λ i. hasRank (usedIn g f + 1) (f′ i)) (g .s) x (c .inside) top-rank new-rank))
+      (λ lt. count-ext (λ i. hasRank (n + 1) (f′ i)) (λ i. hasRank (n + 1) (f i)) (g .s) (old-rank (n + 1) (omega arith)) ∙ h .once n lt)
+      (last-or-below (rw add-one at l))
+
+  pub gain-right : Right g f′
+  gain-right = record { ok = λ j l. rw gain-count (gain-ok j l); once = λ n l. gain-once n (omega (arith, gain-count)) }
+
+  pub gain-ages : ages g f′ ≡ x ∷ ages g f
+  gain-ages =
+      let k = usedIn g f in
+      ap (agesTo g f′) gain-count
+      ∙ ages-more g f′ k
+      ∙ ap₂ (λ (i : ℕ) (r : List ℕ). i ∷ r) (ranked-only g f′ (k + 1) x (c .inside) top-rank new-rank)
+      (ages-same g f f′ k (λ m l. ranked-same g f f′ (suc m) (suc m) (old-rank (suc m) l)))

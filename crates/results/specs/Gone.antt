@@ -1,0 +1,110 @@
+-- A used slot is emptied and the higher ranks fall by one: the slots stay right, and the others keep their order.
+-- Assumes nothing.
+use Prim.Native.Nat.{ℕ, zero, suc, _+_, _≤_, _<_}
+use native.Mathlib.Numerals.{add-one}
+use native.Mathlib.Omega.{arith}
+use mathlib.Core.Bool.{true, false, not, false≢true}
+use mathlib.Core.Path.{_≡_, refl, sym, ap, ap₂, _∙_}
+use mathlib.Core.Logic.{⊎-elim}
+use mathlib.Core.List.{List, [], _∷_}
+use lib.Dec.{eqb}
+use borrow.Author.Tests.{eq-eqb, ne-eqb}
+use Rattle.rules.specs.Cases.{either, same, order, agree, last-or-below}
+use Rattle.rules.specs.Count.{countBelow, count-ext, count-gone}
+use Rattle.geometry.specs.declared.Geometry.{Geometry}
+use Rattle.slots.specs.declared.Slot.{Slot}
+use Rattle.slots.specs.Record.{isUsed, zeroSlot}
+use Rattle.slots.specs.Slots.{hasRank, slotOk}
+use Rattle.slots.specs.Facts.{Used, used-ok, empty-is, zero-ok, usedIn, Right}
+use Rattle.results.specs.Lists.{keep-none, keep-hit, keep-miss}
+use Rattle.results.specs.Ages.{slotRanked, agesTo, ages, without}
+use Rattle.results.specs.Ranks.{has-rank, rank-has, not-rank, used-at, rank-apart, ranked-is, ranked-at, ranked-same, used-ranked}
+use Rattle.results.specs.Lower.{lowerRank, lowerSlot, rankBefore, lower-below, before-below, before-above, before-other, lower-before, before-lower, lower-in}
+
+-- the slots f′ are f with x emptied
+pub record Gone (g : Geometry) (f f′ : ℕ → Slot) (x : ℕ) : Type 0 where
+  pub inside : x < g .s
+  pub used : isUsed (f x) ≡ true
+  pub zeroed : f′ x ≡ zeroSlot
+  pub rest : (j : ℕ) → j < g .s → (j ≡ x → ⊥) → f′ j ≡ lowerSlot (f x .rank) (f j)
+
+module _ (g : Geometry) (f f′ : ℕ → Slot) (x : ℕ) (h : Right g f) (c : Gone g f f′ x) where
+  pub gone-count : usedIn g f ≡ usedIn g f′ + 1
+  gone-count =
+      count-gone (λ i. isUsed (f i)) (λ i. isUsed (f′ i)) (g .s) x (c .inside) (c .used) (ap isUsed (c .zeroed)) (λ j l ne. ap isUsed (c .rest j l ne))
+
+  at-x : Used g (usedIn g f) (f x)
+  at-x = used-at g f h x (c .inside) (c .used)
+
+  other-rank : (j : ℕ) → j < g .s → (j ≡ x → ⊥) → isUsed (f j) ≡ true → f j .rank ≡ f x .rank → ⊥
+  other-rank j l ne u e = ne (rank-apart g f h j x l (c .inside) u (c .used) e)
+
+  gone-ok : (j : ℕ) → j < g .s → slotOk g (usedIn g f′) (f′ j) ≡ true
+  gone-ok j l =
+      let k′ = usedIn g f′ in
+      let r = f x .rank in
+      ⊎-elim (λ e. ap (λ (i : ℕ). slotOk g k′ (f′ i)) e ∙ ap (slotOk g k′) (c .zeroed) ∙ zero-ok g k′)
+      (λ ne. ap (slotOk g k′) (c .rest j l ne)
+      ∙ ⊎-elim (λ u. let w = used-at g f h j l u in
+      let v = at-x in
+      let n = lower-in r (f j .rank) (other-rank j l ne u) k′ (v .rank-low) (omega (arith, gone-count)) (w .rank-low) (omega (arith, gone-count)) in
+      used-ok g k′ (lowerSlot r (f j)) u (used-ranked g (usedIn g f) k′ (lowerRank r (f j .rank)) (f j) w (n .0) (n .1)))
+      (λ u. let z : f j ≡ zeroSlot = empty-is g (usedIn g f) (f j) u (h .ok j l) in rw (z, lower-below r 0 (omega arith)) (zero-ok g k′))
+      (either (isUsed (f j))))
+      (same j x)
+
+  -- the slot of rank n is the one that had the rank that becomes n
+  moved : (n j : ℕ) → j < g .s → hasRank n (f′ j) ≡ hasRank (rankBefore (f x .rank) n) (f j)
+  moved n j l =
+      let r = f x .rank in
+      let m = rankBefore r n in
+      ⊎-elim
+      (λ e. rw e (not-rank n (f′ x) (λ u t. false≢true (ap isUsed (sym (c .zeroed)) ∙ u)) ∙ sym (not-rank m (f x) (λ u t. before-other r n (sym t)))))
+      (λ ne. ap (hasRank n) (c .rest j l ne)
+      ∙ agree (hasRank n (lowerSlot r (f j))) (hasRank m (f j))
+      (λ t. let b = rank-has n (lowerSlot r (f j)) t in has-rank m (f j) (b .0) (lower-before r (f j .rank) (other-rank j l ne (b .0)) n (b .1)))
+      (λ t. let b = rank-has m (f j) t in has-rank n (lowerSlot r (f j)) (b .0) (before-lower r (f j .rank) (other-rank j l ne (b .0)) n (b .1))))
+      (same j x)
+
+  gone-once : (n : ℕ) → n < usedIn g f′ → countBelow (g .s) (λ i. hasRank (n + 1) (f′ i)) ≡ 1
+  gone-once n l =
+      let r = f x .rank in
+      count-ext (λ i. hasRank (n + 1) (f′ i)) (λ i. hasRank (rankBefore r (n + 1)) (f i)) (g .s) (moved (n + 1))
+      ∙ ⊎-elim (λ b. rw (before-below r (n + 1) b) (h .once n (omega (arith, gone-count))))
+      (λ b. rw (before-above r (n + 1) b, ← add-one (n + 1)) (h .once (n + 1) (omega (arith, gone-count))))
+      (order (n + 1) r)
+
+  pub gone-right : Right g f′
+  gone-right = record { ok = gone-ok; once = gone-once }
+
+  -- ---- by age
+
+  kept : (n : ℕ) → n < usedIn g f → (suc n ≡ f x .rank → ⊥) → not (eqb (slotRanked g f (suc n)) x) ≡ true
+  kept n l ne = ap not (ne-eqb _ _ (λ e. ne (sym (ranked-at g f h n l .2) ∙ ap (λ (i : ℕ). f i .rank) e)))
+
+  low : (n : ℕ) → n < f x .rank → without x (agesTo g f n) ≡ agesTo g f′ n
+  unfolding agesTo
+  low zero l = keep-none _
+  low (suc n) l =
+      let v = at-x in
+      keep-hit _ _ _ (kept n (omega arith) (λ e. omega arith))
+      ∙ ap₂ (λ (i : ℕ) (t : List ℕ). i ∷ t) (sym (ranked-same g f f′ (suc n) _ (moved (suc n)) ∙ ap (slotRanked g f) (before-below (f x .rank) (suc n) l)))
+      (low n (omega arith))
+
+  here : (n : ℕ) → f x .rank ≡ suc n → without x (agesTo g f (suc n)) ≡ agesTo g f′ n
+  unfolding agesTo
+  here n e = keep-miss _ _ _ (ap not (eq-eqb _ _ (ap (slotRanked g f) (sym e) ∙ ranked-is g f h x (c .inside) (c .used)))) ∙ low n (omega arith)
+
+  high : (n : ℕ) → f x .rank ≤ suc n → n < usedIn g f → without x (agesTo g f (suc n)) ≡ agesTo g f′ n
+  unfolding agesTo
+  high zero l lk = let v = at-x in here 0 (omega arith)
+  high (suc n) l lk =
+      ⊎-elim
+      (λ (b : suc n < f x .rank). here (suc n) (omega arith))
+      (λ (b : f x .rank ≤ suc n). keep-hit _ _ _ (kept (suc n) lk (λ e. omega arith))
+      ∙ ap₂ (λ (i : ℕ) (t : List ℕ). i ∷ t) (sym (ranked-same g f f′ (suc n) _ (moved (suc n)) ∙ ap (slotRanked g f) (before-above (f x .rank) (suc n) b)))
+      (high n b (omega arith)))
+      (order (suc n) (f x .rank))
+
+  pub gone-ages : ages g f′ ≡ without x (ages g f)
+  gone-ages = let v = at-x in sym (rw (gone-count, add-one) (high (usedIn g f′) (omega (arith, gone-count)) (omega (arith, gone-count))))

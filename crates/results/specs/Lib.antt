@@ -1,0 +1,13 @@
+pub mod Lists
+pub mod Ages
+pub mod Ranks
+pub mod Gain
+pub mod Lower
+pub mod Gone
+pub mod Members
+pub mod Results
+pub mod Retain
+pub mod Outside
+pub mod Lowered
+pub mod Release
+pub mod Drop

@@ -1,0 +1,83 @@
+-- What the bytes become where higher ranks fall by one.
+-- Assumes nothing.
+use Prim.Native.Nat.{ℕ, zero, suc, _+_, _-_, _^_, _≤_, _<_}
+use native.Mathlib.Nat.{not-suc-le-zero}
+use native.Mathlib.Omega.{arith}
+use mathlib.Core.Path.{_≡_, refl, sym, ap, _∙_}
+use mathlib.Core.Logic.{_⊎_, inl, inr, ⊎-elim}
+use mathlib.Core.List.{List}
+use lib.Dec.{ltb}
+use lib.ListN.{length}
+use Rattle.octets.specs.Part.{part}
+use Rattle.octets.specs.Put.{put, length-put}
+use Rattle.octets.specs.PutPut.{part-put-apart}
+use Rattle.octets.specs.Number.{toBe, length-toBe}
+use Rattle.rules.specs.Cases.{either, last-or-below}
+use Rattle.geometry.specs.declared.Geometry.{Geometry}
+use Rattle.geometry.specs.Header.{slotSize, slotAt}
+use Rattle.geometry.specs.Frame.{Framed}
+use Rattle.geometry.specs.Places.{slot-room}
+use Rattle.slots.specs.declared.Slot.{Slot}
+use Rattle.slots.specs.Record.{slotOf}
+use Rattle.slots.specs.Change.{lowerOne, lowered}
+use Rattle.slots.specs.Stored.{slot-ranked, slot-other}
+use Rattle.results.specs.Lists.{on-test}
+use Rattle.results.specs.Lower.{lowerRank, lowerSlot}
+use Rattle.results.specs.Outside.{Outside}
+
+module _ (g : Geometry) (rank : ℕ) where
+  -- ---- in one slot
+  module _ (s : List ℕ) (i : ℕ) where
+    length-lower : length (lowerOne g rank i s) ≡ length s
+    unfolding lowerOne
+    length-lower = on-test (λ (t : List ℕ). length t ≡ length s) (ltb rank (slotOf s g i .rank)) (λ h. length-put s _ _) (λ h. refl)
+
+    lower-part : (a n : ℕ) → (a + n ≤ slotAt g i) ⊎ (slotAt g i + 16 ≤ a) → part (lowerOne g rank i s) a n ≡ part s a n
+    unfolding lowerOne
+    lower-part a n o =
+        let v = slotOf s g i .rank - 1 in
+        on-test (λ (t : List ℕ). part t a n ≡ part s a n) (ltb rank (slotOf s g i .rank))
+        (λ h. part-put-apart s (slotAt g i) (toBe 4 v) a n (⊎-elim (λ l. inl l) (λ l. inr (omega (arith, length-toBe 4 v))) o)) (λ h. refl)
+
+    lower-other : (j : ℕ) → (j ≡ i → ⊥) → slotOf (lowerOne g rank i s) g j ≡ slotOf s g j
+    unfolding lowerOne
+    lower-other j ne =
+        let v = slotOf s g i .rank - 1 in
+        on-test (λ (t : List ℕ). slotOf t g j ≡ slotOf s g j) (ltb rank (slotOf s g i .rank))
+        (λ h. slot-other s g i j (toBe 4 v) ne (omega (arith, length-toBe 4 v))) (λ h. refl)
+
+    lower-slot : slotAt g i + 16 ≤ length s → slotOf s g i .rank < 2 ^ 32 → slotOf (lowerOne g rank i s) g i ≡ lowerSlot rank (slotOf s g i)
+    unfolding lowerOne lowerRank
+    lower-slot room small =
+        ⊎-elim (λ h. rw h (slot-ranked s g i room (slotOf s g i .rank - 1) (omega arith))) (λ h. rw h) (either (ltb rank (slotOf s g i .rank)))
+
+  -- ---- in the first n slots
+  module _ (s : List ℕ) where
+    pub length-lowered : (n : ℕ) → length (lowered g rank n s) ≡ length s
+    unfolding lowered
+    length-lowered zero = refl
+    length-lowered (suc n) = length-lower (lowered g rank n s) n ∙ length-lowered n
+
+    pub lowered-part : (n a m : ℕ) → n ≤ g .s → Outside g a m → part (lowered g rank n s) a m ≡ part s a m
+    unfolding lowered
+    lowered-part zero a m l o = refl
+    lowered-part (suc n) a m l o = lower-part (lowered g rank n s) n a m (o n l) ∙ lowered-part n a m (omega arith) o
+
+    -- not reached yet
+    lowered-above : (n j : ℕ) → n ≤ j → slotOf (lowered g rank n s) g j ≡ slotOf s g j
+    unfolding lowered
+    lowered-above zero j l = refl
+    lowered-above (suc n) j l = lower-other (lowered g rank n s) n j (λ e. omega arith) ∙ lowered-above n j (omega arith)
+
+    -- passed
+    pub lowered-below : Framed s g → ((j : ℕ) → j < g .s → slotOf s g j .rank < 2 ^ 32) → (n j : ℕ) → n ≤ g .s → j < n
+        → slotOf (lowered g rank n s) g j ≡ lowerSlot rank (slotOf s g j)
+    unfolding lowered
+    lowered-below f small zero j h l = absurd (not-suc-le-zero l)
+    lowered-below f small (suc n) j h l =
+        let t = lowered g rank n s in
+        let q : slotOf t g n ≡ slotOf s g n = lowered-above n n (omega arith) in
+        ⊎-elim
+        (λ e. rw e (lower-slot t n (omega (arith, slot-room s g n f h, length-lowered n)) (rw q (small n h)) ∙ ap (lowerSlot rank) q))
+        (λ lt. lower-other t n j (λ e. omega arith) ∙ lowered-below f small n j (omega arith) lt)
+        (last-or-below l)

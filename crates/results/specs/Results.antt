@@ -1,0 +1,87 @@
+-- The retained results of an image as a list by age, newest first.
+-- Assumes nothing.
+use Prim.Native.Nat.{ℕ, _+_, _*_, _≤_, _<_}
+use native.Mathlib.Omega.{arith}
+use mathlib.Core.Bool.{true}
+use mathlib.Core.Path.{_≡_, refl, sym, ap, _∙_}
+use mathlib.Core.List.{List, map, List·Memᴰ, Memᴰ·of-map}
+use lib.ListN.{length}
+use Rattle.octets.specs.Part.{part, length-part}
+use Rattle.geometry.specs.declared.Geometry.{Geometry}
+use Rattle.geometry.specs.Header.{slotSize, slotAt, dataAt}
+use Rattle.geometry.specs.Frame.{Framed}
+use Rattle.geometry.specs.Places.{slot-room, data-ends}
+use Rattle.slots.specs.declared.Slot.{Slot}
+use Rattle.slots.specs.Record.{slotOf}
+use Rattle.slots.specs.RecordLaws.{ranked}
+use Rattle.slots.specs.Slots.{usedCount, slotsOk}
+use Rattle.slots.specs.Facts.{Used, right}
+use Rattle.slots.specs.Change.{entry, retained}
+use Rattle.results.specs.Ages.{ages}
+use Rattle.results.specs.Ranks.{used-at}
+use Rattle.results.specs.Members.{ages-in}
+
+-- a result of len blocks of a drive from a block on
+pub record Result : Type 0 where
+  pub kind : ℕ
+  pub drive : ℕ
+  pub block : ℕ
+  pub len : ℕ
+  pub bytes : List ℕ
+
+-- what a record and its data hold
+abbrev pub resultOf : Slot → List ℕ → Result
+resultOf r bytes = record { kind = r .kind; drive = r .drive; block = r .block .0; len = r .len; bytes = bytes }
+
+-- slot i's: "its bytes fill the front of the slot"
+unfoldable pub resultAt : List ℕ → Geometry → ℕ → Result
+resultAt s g i = resultOf (slotOf s g i) (part s (dataAt g i) (slotOf s g i .len * g .l))
+
+unfoldable pub results : List ℕ → Geometry → List Result
+results s g = map (resultAt s g) (ages g (slotOf s g))
+
+-- the record of a result at a rank, and an image that retains it
+abbrev pub recordAt : ℕ → Result → Slot
+recordAt rank r = entry rank (r .kind) (r .drive) (r .block) (r .len)
+
+abbrev pub withResult : List ℕ → Geometry → Result → List ℕ
+withResult s g r = retained s g (r .kind) (r .drive) (r .block) (r .len) (r .bytes)
+
+-- a result that a slot can hold
+pub record Sound (g : Geometry) (r : Result) : Type 0 where
+  pub kind-low : 1 ≤ r .kind
+  pub kind-high : r .kind ≤ 2
+  pub drive-in : r .drive < g .d
+  pub len-low : 1 ≤ r .len
+  pub len-high : r .len ≤ g .m
+  pub range-in : r .block + r .len ≤ g .b
+  pub exact : length (r .bytes) ≡ r .len * g .l
+
+-- a slot of another rank with the same data holds the same result
+pub result-same : (s s′ : List ℕ) (g : Geometry) (i m : ℕ) → slotOf s′ g i ≡ ranked m (slotOf s g i)
+    → part s′ (dataAt g i) (slotOf s g i .len * g .l) ≡ part s (dataAt g i) (slotOf s g i .len * g .l) → resultAt s′ g i ≡ resultAt s g i
+unfolding resultAt
+result-same s s′ g i m e d = ap (λ (t : Slot). resultOf t (part s′ (dataAt g i) (t .len * g .l))) e ∙ ap (resultOf (slotOf s g i)) d
+
+-- what a right image retains is sound
+module _ (s : List ℕ) (g : Geometry) (f : Framed s g) (ok : slotsOk s g ≡ true) where
+  slot-sound : (i : ℕ) → i < g .s → Used g (usedCount s g) (slotOf s g i) → Sound g (resultAt s g i)
+  unfolding resultAt
+  slot-sound i l w =
+      record {
+        kind-low = w .kind-low;
+        kind-high = w .kind-high;
+        drive-in = w .drive-in;
+        len-low = w .len-low;
+        len-high = w .len-high;
+        range-in = w .range-in;
+        exact = length-part s (dataAt g i) (slotOf s g i .len * g .l) (omega (arith, data-ends g i (slotOf s g i .len) (w .len-high), slot-room s g i f l));
+      }
+
+  pub results-sound : (r : Result) → List·Memᴰ r (results s g) → Sound g r
+  unfolding results
+  results-sound r m =
+      let w = Memᴰ·of-map (resultAt s g) (ages g (slotOf s g)) m in
+      let h = right s g ok in
+      let b = ages-in g (slotOf s g) h (w .0) (w .1) in
+      rw (← w .2) (slot-sound (w .0) (b .0) (used-at g (slotOf s g) h (w .0) (b .0) (b .1)))
