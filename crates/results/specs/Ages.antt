@@ -1,16 +1,21 @@
 -- The used slots by age, newest first.
 -- Assumes nothing.
 use Prim.Native.Nat.{ℕ, zero, suc}
+use mathlib.Core.Path.{_≡_}
 use mathlib.Core.Bool.{not}
 use mathlib.Core.List.{List, [], _∷_}
 use lib.Dec.{eqb}
 use Rattle.rules.specs.declared.Found.{Found}
 use Rattle.rules.specs.declared.Found.the-variants.{At, Nothing}
+use Rattle.rules.specs.Every.{every}
+use Rattle.rules.specs.Count.{countBelow}
 use Rattle.rules.specs.Least.{leastBelow}
 use Rattle.geometry.specs.declared.Geometry.{Geometry}
 use Rattle.slots.specs.declared.Slot.{Slot}
+use Rattle.slots.specs.Record.{zeroSlot}
 use Rattle.slots.specs.Slots.{hasRank}
 use Rattle.slots.specs.Facts.{usedIn}
+use Rattle.slots.specs.Change.{entry}
 use Rattle.results.specs.Lists.{keeping}
 
 -- what was found, or 0
@@ -30,6 +35,17 @@ agesTo g f (suc n) = slotRanked g f (suc n) ∷ agesTo g f n
 -- "their ranks are 1 to k, each once; the newest has rank k"
 abbrev pub ages : Geometry → (ℕ → Slot) → List ℕ
 ages g f = agesTo g f (usedIn g f)
+
+-- of slots with ranks 2, none, 3 and 1, the third is the newest and the last the oldest
+sample : ℕ → Slot
+sample zero = entry 2 1 0 0 1
+sample (suc zero) = zeroSlot
+sample (suc (suc zero)) = entry 3 1 0 0 1
+sample (suc (suc (suc i))) = entry 1 1 0 0 1
+
+by-age : (g : Geometry) → g .s ≡ 4 → ages g sample ≡ 2 ∷ 0 ∷ 3 ∷ []
+unfolding agesTo slotRanked sample leastBelow countBelow every
+by-age g e = rw e
 
 -- the other numbers of a list, in order
 abbrev pub without : ℕ → List ℕ → List ℕ

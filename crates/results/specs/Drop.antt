@@ -1,11 +1,11 @@
 -- All results of a drive go: the slots stay right, the results of the other drives stay in order, and no byte outside the slots' records
 -- changes.
 -- Assumes nothing.
-use Prim.Native.Nat.{ℕ, zero, suc, _+_, _≤_, _<_}
+use Prim.Native.Nat.{ℕ, zero, suc, _≤_, _<_}
 use native.Mathlib.Nat.{not-suc-le-zero}
 use native.Mathlib.Omega.{arith}
 use mathlib.Core.Bool.{Bool, true, false, not, true≢false}
-use mathlib.Core.Path.{_≡_, refl, sym, ap, subst, _∙_}
+use mathlib.Core.Path.{_≡_, refl, sym, ap, _∙_}
 use mathlib.Core.Logic.{⊎-elim}
 use mathlib.Core.List.{List, List·Memᴰ, Memᴰ·of-map}
 use lib.Dec.{eqb}
@@ -13,18 +13,16 @@ use lib.ListN.{length}
 use borrow.Author.Tests.{eqb-true, eq-eqb, ne-eqb, not-false}
 use Rattle.octets.specs.Part.{part}
 use Rattle.rules.specs.Cases.{last-or-below}
-use Rattle.rules.specs.Every.{every, holds, every-of, fails}
+use Rattle.rules.specs.Every.{holds, every-of, fails}
 use Rattle.geometry.specs.declared.Geometry.{Geometry}
 use Rattle.geometry.specs.Frame.{Framed, framed-same}
-use Rattle.slots.specs.declared.Slot.{Slot}
-use Rattle.slots.specs.Record.{slotOf, isUsed, zeroSlot}
+use Rattle.slots.specs.Record.{slotOf}
 use Rattle.slots.specs.Slots.{slotsOk}
 use Rattle.slots.specs.Facts.{right}
 use Rattle.slots.specs.Change.{released, ofDrive, dropOne, droppedTo, dropped}
 use Rattle.results.specs.Lists.{on-test, keeping, keep-all, keep-keep}
-use Rattle.results.specs.Ages.{ages}
 use Rattle.results.specs.Members.{ages-in}
-use Rattle.results.specs.Results.{Result, resultAt, results}
+use Rattle.results.specs.Results.{Result, resultAt, byAge, results}
 use Rattle.results.specs.Outside.{Outside}
 use Rattle.results.specs.Release.{length-released, release-part, release-zeroed, release-slot, release-ok, release-results}
 
@@ -56,7 +54,7 @@ module _ (s : List ℕ) (g : Geometry) (f : Framed s g) (drive n : ℕ) (t : Lis
   unfolding results resultAt
   emptied-others e =
       ap (keeping (ofOther drive)) (release-results t g ft (h .ok) n l (holds _ 0 e))
-      ∙ keep-keep (resultAt t g) (ofOther drive) (λ i. not (eqb i n)) (ages g (slotOf t g))
+      ∙ keep-keep (resultAt t g) (ofOther drive) (λ i. not (eqb i n)) (byAge t g)
       (λ i q. ap not (ap (λ (j : ℕ). eqb (slotOf t g j .drive) drive) (eqb-true i n (not-false _ q)) ∙ holds _ 1 e))
 
   emptied-hit : ofDrive drive (slotOf t g n) ≡ true → Emptied s g drive (suc n) (released t g n)
@@ -109,7 +107,7 @@ module _ (s : List ℕ) (g : Geometry) (f : Framed s g) (ok : slotsOk s g ≡ tr
   unfolding results resultAt
   no-more r m =
       let t = dropped s g drive in
-      let w = Memᴰ·of-map (resultAt t g) (ages g (slotOf t g)) m in
+      let w = Memᴰ·of-map (resultAt t g) (byAge t g) m in
       let b = ages-in g (slotOf t g) (right t g drop-ok) (w .0) (w .1) in
       rw (← w .2) (ap not (ne-eqb (slotOf t g (w .0) .drive) drive
       (λ q. true≢false (sym (every-of _ (b .1, (eq-eqb _ _ q, tt))) ∙ all-emptied .none (w .0) (b .0)))))

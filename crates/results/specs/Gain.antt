@@ -4,7 +4,7 @@ use Prim.Native.Nat.{ℕ, suc, _+_, _≤_, _<_}
 use native.Mathlib.Numerals.{add-one}
 use native.Mathlib.Omega.{arith}
 use mathlib.Core.Bool.{true, false, true≢false}
-use mathlib.Core.Path.{_≡_, refl, sym, ap, ap₂, _∙_}
+use mathlib.Core.Path.{_≡_, sym, ap, ap₂, _∙_}
 use mathlib.Core.Logic.{⊎-elim}
 use mathlib.Core.List.{List, _∷_}
 use Rattle.rules.specs.Cases.{either, same, last-or-below}
@@ -14,7 +14,7 @@ use Rattle.slots.specs.declared.Slot.{Slot}
 use Rattle.slots.specs.Record.{isUsed}
 use Rattle.slots.specs.Slots.{hasRank, slotOk}
 use Rattle.slots.specs.Facts.{Used, used-ok, usedIn, Right}
-use Rattle.results.specs.Ages.{slotRanked, agesTo, ages}
+use Rattle.results.specs.Ages.{agesTo, ages}
 use Rattle.results.specs.Ranks.{has-rank, not-rank, used-is, ranked-only, ranked-same, used-at, used-ranked, empty-any, ages-same, ages-more}
 
 -- the slots f′ are f with a result in x, which was empty

@@ -3,13 +3,13 @@
 use Prim.Native.Nat.{ℕ, zero, suc, _+_, _≤_, _<_}
 use native.Mathlib.Numerals.{add-one}
 use native.Mathlib.Omega.{arith}
-use mathlib.Core.Bool.{true, false, not, false≢true}
-use mathlib.Core.Path.{_≡_, refl, sym, ap, ap₂, _∙_}
+use mathlib.Core.Bool.{true, not, false≢true}
+use mathlib.Core.Path.{_≡_, sym, ap, ap₂, _∙_}
 use mathlib.Core.Logic.{⊎-elim}
-use mathlib.Core.List.{List, [], _∷_}
+use mathlib.Core.List.{List, _∷_}
 use lib.Dec.{eqb}
 use borrow.Author.Tests.{eq-eqb, ne-eqb}
-use Rattle.rules.specs.Cases.{either, same, order, agree, last-or-below}
+use Rattle.rules.specs.Cases.{either, same, order, agree}
 use Rattle.rules.specs.Count.{countBelow, count-ext, count-gone}
 use Rattle.geometry.specs.declared.Geometry.{Geometry}
 use Rattle.slots.specs.declared.Slot.{Slot}
@@ -22,13 +22,13 @@ use Rattle.results.specs.Ranks.{has-rank, rank-has, not-rank, used-at, r
 use Rattle.results.specs.Lower.{lowerRank, lowerSlot, rankBefore, lower-below, before-below, before-above, before-other, lower-before, before-lower, lower-in}
 
 -- the slots f′ are f with x emptied
-pub record Gone (g : Geometry) (f f′ : ℕ → Slot) (x : ℕ) : Type 0 where
+pub record Lost (g : Geometry) (f f′ : ℕ → Slot) (x : ℕ) : Type 0 where
   pub inside : x < g .s
   pub used : isUsed (f x) ≡ true
   pub zeroed : f′ x ≡ zeroSlot
   pub rest : (j : ℕ) → j < g .s → (j ≡ x → ⊥) → f′ j ≡ lowerSlot (f x .rank) (f j)
 
-module _ (g : Geometry) (f f′ : ℕ → Slot) (x : ℕ) (h : Right g f) (c : Gone g f f′ x) where
+module _ (g : Geometry) (f f′ : ℕ → Slot) (x : ℕ) (h : Right g f) (c : Lost g f f′ x) where
   pub gone-count : usedIn g f ≡ usedIn g f′ + 1
   gone-count =
       count-gone (λ i. isUsed (f i)) (λ i. isUsed (f′ i)) (g .s) x (c .inside) (c .used) (ap isUsed (c .zeroed)) (λ j l ne. ap isUsed (c .rest j l ne))

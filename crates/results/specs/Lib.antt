@@ -1,4 +1,5 @@
 pub mod Lists
+pub mod First
 pub mod Ages
 pub mod Ranks
 pub mod Gain
@@ -6,8 +7,12 @@ pub mod Lower
 pub mod Gone
 pub mod Members
 pub mod Results
-pub mod Retain
 pub mod Outside
+pub mod Retain
 pub mod Lowered
 pub mod Release
 pub mod Drop
+pub mod Kept
+pub mod Best
+pub mod Newest
+pub mod Full

@@ -1,11 +1,8 @@
--- The elements of a list that pass a test, and the first that does.
+-- The elements of a list that pass a test.
 -- Assumes nothing.
 use mathlib.Core.Path.{_≡_, refl, sym, ap, ap₂, _∙_}
 use mathlib.Core.Bool.{Bool, true, false, cond}
-use mathlib.Core.Logic.{⊎-elim}
 use mathlib.Core.List.{List, [], _∷_, map, List·Memᴰ, List·Memᴰ·head, List·Memᴰ·tail}
-use mathlib.Core.Option.{Option, some, none}
-use Rattle.rules.specs.Cases.{either}
 
 -- the two ways that a test goes
 pub on-test : {A : Type 0} (P : A → Type 0) (b : Bool) {x y : A} → (b ≡ true → P x) → (b ≡ false → P y) → P (cond b x y)
@@ -17,16 +14,6 @@ module _ {A : Type 0} where
   unfoldable pub keeping : (A → Bool) → List A → List A
   keeping p [] = []
   keeping p (x ∷ xs) = cond (p x) (x ∷ keeping p xs) (keeping p xs)
-
-  -- the first that passes
-  unfoldable pub firstOf : (A → Bool) → List A → Option A
-  firstOf p [] = none
-  firstOf p (x ∷ xs) = cond (p x) (some x) (firstOf p xs)
-
-  -- all but the first that passes
-  unfoldable pub sansFirst : (A → Bool) → List A → List A
-  sansFirst p [] = []
-  sansFirst p (x ∷ xs) = cond (p x) xs (x ∷ sansFirst p xs)
 
   module _ (p : A → Bool) where
     pub keep-none : keeping p [] ≡ []

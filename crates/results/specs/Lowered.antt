@@ -3,21 +3,20 @@
 use Prim.Native.Nat.{ℕ, zero, suc, _+_, _-_, _^_, _≤_, _<_}
 use native.Mathlib.Nat.{not-suc-le-zero}
 use native.Mathlib.Omega.{arith}
-use mathlib.Core.Path.{_≡_, refl, sym, ap, _∙_}
+use mathlib.Core.Path.{_≡_, refl, ap, _∙_}
 use mathlib.Core.Logic.{_⊎_, inl, inr, ⊎-elim}
 use mathlib.Core.List.{List}
 use lib.Dec.{ltb}
 use lib.ListN.{length}
 use Rattle.octets.specs.Part.{part}
-use Rattle.octets.specs.Put.{put, length-put}
+use Rattle.octets.specs.Put.{length-put}
 use Rattle.octets.specs.PutPut.{part-put-apart}
 use Rattle.octets.specs.Number.{toBe, length-toBe}
 use Rattle.rules.specs.Cases.{either, last-or-below}
 use Rattle.geometry.specs.declared.Geometry.{Geometry}
-use Rattle.geometry.specs.Header.{slotSize, slotAt}
+use Rattle.geometry.specs.Header.{slotAt}
 use Rattle.geometry.specs.Frame.{Framed}
 use Rattle.geometry.specs.Places.{slot-room}
-use Rattle.slots.specs.declared.Slot.{Slot}
 use Rattle.slots.specs.Record.{slotOf}
 use Rattle.slots.specs.Change.{lowerOne, lowered}
 use Rattle.slots.specs.Stored.{slot-ranked, slot-other}

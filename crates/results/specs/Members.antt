@@ -1,6 +1,6 @@
 -- The slots by age are exactly the used slots, in descending rank, where the slots are right.
 -- Assumes nothing.
-use Prim.Native.Nat.{ℕ, zero, suc, _+_, _-_, _≤_, _<_}
+use Prim.Native.Nat.{ℕ, zero, suc, _+_, _≤_, _<_}
 use native.Mathlib.Nat.{not-suc-le-zero}
 use native.Mathlib.Omega.{arith}
 use mathlib.Core.Bool.{true}
@@ -12,7 +12,7 @@ use Rattle.rules.specs.Cases.{order}
 use Rattle.geometry.specs.declared.Geometry.{Geometry}
 use Rattle.slots.specs.declared.Slot.{Slot}
 use Rattle.slots.specs.Record.{isUsed}
-use Rattle.slots.specs.Facts.{Used, usedIn, Right}
+use Rattle.slots.specs.Facts.{usedIn, Right}
 use Rattle.results.specs.Ages.{slotRanked, agesTo, ages}
 use Rattle.results.specs.Ranks.{used-at, ranked-is, ranked-at}
 

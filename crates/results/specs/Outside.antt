@@ -2,24 +2,25 @@
 -- Assumes nothing.
 use Prim.Native.Nat.{ℕ, _+_, _*_, _≤_, _<_}
 use native.Mathlib.Omega.{arith}
-use mathlib.Core.Path.{_≡_, ap}
+use mathlib.Core.Path.{ap}
 use mathlib.Core.Logic.{_⊎_, inl, inr, ⊎-elim}
 use Rattle.rules.specs.Cases.{same}
 use Rattle.geometry.specs.declared.Geometry.{Geometry}
-use Rattle.geometry.specs.Header.{slotSize, slotAt, dataAt}
+use Rattle.geometry.specs.Header.{slotAt, dataAt}
 use Rattle.geometry.specs.Frame.{Placed}
-use Rattle.geometry.specs.Places.{slots-apart, slot-before-media, data-ends}
+use Rattle.geometry.specs.Places.{slots-apart, slot-after-table, slot-before-media, data-ends}
 
 -- the n bytes from a on meet no record
 abbrev pub Outside : Geometry → ℕ → ℕ → Type 0
 Outside g a n = (i : ℕ) → i < g .s → (a + n ≤ slotAt g i) ⊎ (slotAt g i + 16 ≤ a)
 
-pub outside-front : (g : Geometry) (a n : ℕ) → a + n ≤ g .slots → Outside g a n
-unfolding slotAt
-outside-front g a n h i l = inl (omega arith)
+-- what comes before the slots, and from the media on
+abbrev pub Away : Geometry → ℕ → ℕ → Type 0
+Away g a n = (a + n ≤ g .slots) ⊎ (g .media ≤ a)
 
-pub outside-media : (g : Geometry) (a n : ℕ) → Placed g → g .media ≤ a → Outside g a n
-outside-media g a n p h i l = inr (omega (arith, slot-before-media g i p l))
+pub outside-away : (g : Geometry) (a n : ℕ) → Placed g → Away g a n → Outside g a n
+outside-away g a n p w i l =
+    ⊎-elim (λ h. inl (omega (arith, slot-after-table g i p, p .slots-is))) (λ h. inr (omega (arith, slot-before-media g i p l))) w
 
 -- n blocks at the front of slot i's data
 pub outside-data : (g : Geometry) (i n : ℕ) → n ≤ g .m → Outside g (dataAt g i) (n * g .l)

@@ -3,22 +3,21 @@
 use Prim.Native.Nat.{ℕ, zero, suc, _+_, _-_, _≤_, _<_}
 use native.Mathlib.Numerals.{add-one}
 use native.Mathlib.Omega.{arith}
-use mathlib.Core.Bool.{Bool, true, false, not}
+use mathlib.Core.Bool.{true, false, not}
 use mathlib.Core.Path.{_≡_, refl, sym, ap, ap₂, _∙_}
 use mathlib.Core.Logic.{⊎-elim}
-use mathlib.Core.List.{List, [], _∷_}
-use lib.Dec.{eqb}
+use mathlib.Core.List.{List, _∷_}
 use borrow.Author.Tests.{eqb-true, eq-eqb, ne-eqb}
 use Rattle.rules.specs.Cases.{either}
-use Rattle.rules.specs.Every.{every, each, every-of}
-use Rattle.rules.specs.Count.{countBelow, count-some, count-unique}
-use Rattle.rules.specs.Least.{leastBelow, least-only, least-ext}
+use Rattle.rules.specs.Every.{each, every-of}
+use Rattle.rules.specs.Count.{count-some, count-unique}
+use Rattle.rules.specs.Least.{least-only, least-ext}
 use Rattle.geometry.specs.declared.Geometry.{Geometry}
 use Rattle.slots.specs.declared.Slot.{Slot}
 use Rattle.slots.specs.Record.{isUsed}
 use Rattle.slots.specs.RecordLaws.{ranked}
 use Rattle.slots.specs.Slots.{hasRank, slotOk}
-use Rattle.slots.specs.Facts.{Used, used-facts, used-ok, empty-is, zero-ok, usedIn, Right}
+use Rattle.slots.specs.Facts.{Used, used-facts, empty-is, zero-ok, usedIn, Right}
 use Rattle.results.specs.Ages.{orZero, slotRanked, agesTo}
 
 pub has-rank : (n : ℕ) (r : Slot) → isUsed r ≡ true → r .rank ≡ n → hasRank n r ≡ true

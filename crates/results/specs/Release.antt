@@ -1,13 +1,13 @@
 -- A result that goes: the slots stay right, it alone is taken out of the results, and no byte outside the slots' records changes.
 -- Assumes nothing.
-use Prim.Native.Nat.{ℕ, _+_, _*_, _^_, _≤_, _<_}
+use Prim.Native.Nat.{ℕ, _+_, _*_, _^_, _<_}
 use native.Mathlib.Omega.{arith}
 use mathlib.Core.Bool.{true, not}
-use mathlib.Core.Path.{_≡_, refl, sym, ap, _∙_}
+use mathlib.Core.Path.{_≡_, ap, _∙_}
 use mathlib.Core.Logic.{⊎-elim}
 use mathlib.Core.List.{List, map}
 use lib.Dec.{eqb}
-use lib.ListN.{length, replicate, length-replicate}
+use lib.ListN.{length, replicate}
 use borrow.Author.Tests.{not-true, eqb-false}
 use Rattle.octets.specs.Part.{part}
 use Rattle.octets.specs.Put.{put, length-put}
@@ -15,22 +15,22 @@ use Rattle.octets.specs.PutPut.{part-put-apart}
 use Rattle.rules.specs.Cases.{either, same}
 use Rattle.rules.specs.Count.{count-le}
 use Rattle.geometry.specs.declared.Geometry.{Geometry}
-use Rattle.geometry.specs.Header.{slotSize, slotAt, dataAt}
+use Rattle.geometry.specs.Header.{slotAt, dataAt}
 use Rattle.geometry.specs.Frame.{Framed, framed-same}
 use Rattle.geometry.specs.Places.{slot-room}
 use Rattle.slots.specs.declared.Slot.{Slot}
 use Rattle.slots.specs.Record.{slotOf, isUsed, zeroSlot}
 use Rattle.slots.specs.Slots.{usedCount, slotsOk}
-use Rattle.slots.specs.Facts.{Used, empty-is, Right, right, right-ok}
-use Rattle.slots.specs.Change.{released, lowered}
+use Rattle.slots.specs.Facts.{empty-is, right, right-ok}
+use Rattle.slots.specs.Change.{released}
 use Rattle.slots.specs.Stored.{slot-zeroed, slot-other}
 use Rattle.results.specs.Lists.{map-keeping}
-use Rattle.results.specs.Ages.{ages, without}
+use Rattle.results.specs.Ages.{without}
 use Rattle.results.specs.Ranks.{used-at}
 use Rattle.results.specs.Lower.{lowerRank, lowerSlot, lower-below}
-use Rattle.results.specs.Gone.{Gone, gone-count, gone-right, gone-ages}
+use Rattle.results.specs.Gone.{Lost, gone-count, gone-right, gone-ages}
 use Rattle.results.specs.Members.{ages-in}
-use Rattle.results.specs.Results.{resultAt, results, result-same}
+use Rattle.results.specs.Results.{resultAt, byAge, results, result-same}
 use Rattle.results.specs.Outside.{Outside, outside-data}
 use Rattle.results.specs.Lowered.{length-lowered, lowered-part, lowered-below}
 
@@ -81,7 +81,7 @@ module _ (s : List ℕ) (g : Geometry) (f : Framed s g) (ok : slotsOk s g ≡ tr
     release-slot j lj ne = lowered-all j lj ∙ ap (lowerSlot (slotOf s g x .rank)) (zeroed-other j ne)
 
     module _ (u : isUsed (slotOf s g x) ≡ true) where
-      gone : Gone g (slotOf s g) (slotOf (released s g x) g) x
+      gone : Lost g (slotOf s g) (slotOf (released s g x) g) x
       gone = record { inside = l; used = u; zeroed = release-zeroed; rest = release-slot }
 
       pub release-ok : slotsOk (released s g x) g ≡ true
@@ -97,10 +97,10 @@ module _ (s : List ℕ) (g : Geometry) (f : Framed s g) (ok : slotsOk s g ≡ tr
           (release-part s g x (dataAt g i) (slotOf s g i .len * g .l) l (outside-data g i (slotOf s g i .len) (w .len-high)))
 
       -- just this one is taken out
-      pub release-results : results (released s g x) g ≡ map (resultAt s g) (without x (ages g (slotOf s g)))
+      pub release-results : results (released s g x) g ≡ map (resultAt s g) (without x (byAge s g))
       unfolding results
       release-results =
           let h = right s g ok in
           ap (map (resultAt (released s g x) g)) (gone-ages g (slotOf s g) (slotOf (released s g x) g) x h gone)
-          ∙ map-keeping (resultAt (released s g x) g) (resultAt s g) (λ i. not (eqb i x)) (ages g (slotOf s g))
+          ∙ map-keeping (resultAt (released s g x) g) (resultAt s g) (λ i. not (eqb i x)) (byAge s g)
           (λ i m t. let b = ages-in g (slotOf s g) h i m in left i (b .0) (b .1) (eqb-false i x (not-true _ t)))

@@ -3,12 +3,12 @@
 use Prim.Native.Nat.{ℕ, _+_, _*_, _≤_, _<_}
 use native.Mathlib.Omega.{arith}
 use mathlib.Core.Bool.{true}
-use mathlib.Core.Path.{_≡_, refl, sym, ap, _∙_}
+use mathlib.Core.Path.{_≡_, ap, _∙_}
 use mathlib.Core.List.{List, map, List·Memᴰ, Memᴰ·of-map}
 use lib.ListN.{length}
 use Rattle.octets.specs.Part.{part, length-part}
 use Rattle.geometry.specs.declared.Geometry.{Geometry}
-use Rattle.geometry.specs.Header.{slotSize, slotAt, dataAt}
+use Rattle.geometry.specs.Header.{dataAt}
 use Rattle.geometry.specs.Frame.{Framed}
 use Rattle.geometry.specs.Places.{slot-room, data-ends}
 use Rattle.slots.specs.declared.Slot.{Slot}
@@ -37,8 +37,12 @@ resultOf r bytes = record { kind = r .kind; drive = r .drive; block = r .block .
 unfoldable pub resultAt : List ℕ → Geometry → ℕ → Result
 resultAt s g i = resultOf (slotOf s g i) (part s (dataAt g i) (slotOf s g i .len * g .l))
 
+-- an image's used slots, and their results
+abbrev pub byAge : List ℕ → Geometry → List ℕ
+byAge s g = ages g (slotOf s g)
+
 unfoldable pub results : List ℕ → Geometry → List Result
-results s g = map (resultAt s g) (ages g (slotOf s g))
+results s g = map (resultAt s g) (byAge s g)
 
 -- the record of a result at a rank, and an image that retains it
 abbrev pub recordAt : ℕ → Result → Slot
@@ -81,7 +85,7 @@ module _ (s : List ℕ) (g : Geometry) (f : Framed s g) (ok : slotsOk s g ≡ tr
   pub results-sound : (r : Result) → List·Memᴰ r (results s g) → Sound g r
   unfolding results
   results-sound r m =
-      let w = Memᴰ·of-map (resultAt s g) (ages g (slotOf s g)) m in
+      let w = Memᴰ·of-map (resultAt s g) (byAge s g) m in
       let h = right s g ok in
       let b = ages-in g (slotOf s g) h (w .0) (w .1) in
       rw (← w .2) (slot-sound (w .0) (b .0) (used-at g (slotOf s g) h (w .0) (b .0) (b .1)))

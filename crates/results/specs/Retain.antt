@@ -17,9 +17,9 @@ use Rattle.rules.specs.declared.Found.the-variants.{At, Nothing}
 use Rattle.rules.specs.Count.{count-le}
 use Rattle.rules.specs.Least.{least-inside}
 use Rattle.geometry.specs.declared.Geometry.{Geometry}
-use Rattle.geometry.specs.Header.{slotSize, slotAt, dataAt}
+use Rattle.geometry.specs.Header.{slotAt, dataAt}
 use Rattle.geometry.specs.Frame.{Framed}
-use Rattle.geometry.specs.Places.{slots-apart, slot-room, data-ends}
+use Rattle.geometry.specs.Places.{slots-apart, slot-after-table, slot-before-media, slot-room, data-ends}
 use Rattle.slots.specs.declared.Slot.{Slot}
 use Rattle.slots.specs.Record.{slotOf, bytesOf, isUsed}
 use Rattle.slots.specs.RecordLaws.{Small, length-bytes}
@@ -29,11 +29,11 @@ use Rattle.slots.specs.Find.{emptySlot}
 use Rattle.slots.specs.Change.{entered, retained}
 use Rattle.slots.specs.Stored.{slot-put, slot-other}
 use Rattle.results.specs.Lists.{map-same}
-use Rattle.results.specs.Ages.{ages}
 use Rattle.results.specs.Ranks.{used-at}
 use Rattle.results.specs.Gain.{Gained, gain-count, gain-right, gain-ages}
 use Rattle.results.specs.Members.{ages-in}
-use Rattle.results.specs.Results.{Result, resultOf, resultAt, results, recordAt, withResult, Sound, result-same}
+use Rattle.results.specs.Outside.{Away}
+use Rattle.results.specs.Results.{Result, resultOf, resultAt, byAge, results, recordAt, withResult, Sound, result-same}
 
 -- the end of two joined lists
 part-append-back : (xs ys : List ℕ) (n m : ℕ) → length xs ≡ n → length ys ≡ m → part (xs ++ ys) n m ≡ ys
@@ -116,6 +116,13 @@ module _ (s : List ℕ) (g : Geometry) (f : Framed s g) (ok : slotsOk s g ≡ tr
   pub retain-part : (a n : ℕ) → (a + n ≤ slotAt g x) ⊎ (dataAt g x + r .len * g .l ≤ a) → part (withResult s g r) a n ≡ part s a n
   retain-part a n o = ap (λ (t : List ℕ). part t a n) (retain-is s g x r e) ∙ part-put-apart s (slotAt g x) _ a n (⊎-elim (λ l. inl l) (λ l. inr (omega (arith, size))) o)
 
+  pub retain-away : (a n : ℕ) → Away g a n → part (withResult s g r) a n ≡ part s a n
+  retain-away a n o =
+      retain-part a n
+      (⊎-elim (λ l. inl (omega (arith, slot-after-table g x (f .placed), f .placed .slots-is)))
+      (λ l. inr (omega (arith, data-ends g x (r .len) (w .len-high), slot-before-media g x (f .placed) inside)))
+      o)
+
   pub retain-ok : slotsOk (withResult s g r) g ≡ true
   retain-ok = ap (λ (t : List ℕ). slotsOk t g) (retain-is s g x r e) ∙ right-ok (filled s g x r) g (gain-right g _ _ x (right s g ok) gained)
 
@@ -143,7 +150,7 @@ module _ (s : List ℕ) (g : Geometry) (f : Framed s g) (ok : slotsOk s g ≡ tr
   unfolding results
   retain-results =
       let h = right s g ok in
-      ap (λ (t : List ℕ). map (resultAt t g) (ages g (slotOf t g))) (retain-is s g x r e)
+      ap (λ (t : List ℕ). map (resultAt t g) (byAge t g)) (retain-is s g x r e)
       ∙ ap (map (resultAt (filled s g x r) g)) (gain-ages g (slotOf s g) (slotOf (filled s g x r) g) x h gained)
       ∙ ap₂ (λ (t : Result) (ts : List Result). t ∷ ts) new-result
-      (map-same (resultAt (filled s g x r) g) (resultAt s g) (ages g (slotOf s g)) (λ i m. let b = ages-in g (slotOf s g) h i m in old-result i (b .0) (b .1)))
+      (map-same (resultAt (filled s g x r) g) (resultAt s g) (byAge s g) (λ i m. let b = ages-in g (slotOf s g) h i m in old-result i (b .0) (b .1)))

@@ -1,0 +1,4 @@
+pub mod Valid
+pub mod Shelf
+pub mod Length
+pub mod Bench

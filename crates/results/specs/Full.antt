@@ -1,0 +1,53 @@
+-- "Something to retain and no empty slot": as many results are retained as there are slots.
+-- Assumes nothing.
+use Prim.Native.Nat.{ℕ, zero, suc, _<_}
+use native.Mathlib.Nat.{not-suc-le-zero}
+use native.Mathlib.Omega.{arith}
+use mathlib.Core.Bool.{Bool, true, false, not}
+use mathlib.Core.Path.{_≡_, refl, sym, ap, _∙_}
+use mathlib.Core.Logic.{⊎-elim}
+use mathlib.Core.List.{List}
+use lib.ListN.{length, length-map}
+use borrow.Author.Tests.{not-false}
+use Rattle.rules.specs.declared.Found.the-variants.{At, Nothing}
+use Rattle.rules.specs.Cases.{either, last-or-below}
+use Rattle.rules.specs.Count.{countBelow, count-le}
+use Rattle.rules.specs.Least.{least-nothing}
+use Rattle.geometry.specs.declared.Geometry.{Geometry}
+use Rattle.slots.specs.Record.{slotOf, isUsed}
+use Rattle.slots.specs.Slots.{usedCount, slotsOk}
+use Rattle.slots.specs.Facts.{right}
+use Rattle.slots.specs.Find.{emptySlot}
+use Rattle.results.specs.Members.{length-ages}
+use Rattle.results.specs.Results.{resultAt, byAge, results}
+use Rattle.results.specs.Retain.{empty-at}
+
+module _ (p : ℕ → Bool) where
+  -- all have p
+  count-all : (n : ℕ) → ((i : ℕ) → i < n → p i ≡ true) → countBelow n p ≡ n
+  unfolding countBelow
+  count-all zero h = refl
+  count-all (suc n) h = rw (h n (omega arith), count-all n (λ i l. h i (omega arith))) (omega arith)
+
+  -- one has not
+  count-less : (n i : ℕ) → i < n → p i ≡ false → countBelow n p < n
+  unfolding countBelow
+  count-less zero i l h = absurd (not-suc-le-zero l)
+  count-less (suc n) i l h =
+      ⊎-elim (λ (e : i ≡ n). rw (ap p (sym e) ∙ h) (omega (arith, count-le p n)))
+      (λ lt. let r = count-less n i lt h in ⊎-elim (λ t. rw t (omega arith)) (λ t. rw t (omega arith)) (either (p n)))
+      (last-or-below l)
+
+module _ (s : List ℕ) (g : Geometry) (ok : slotsOk s g ≡ true) where
+  pub length-results : length (results s g) ≡ usedCount s g
+  unfolding results
+  length-results = length-map (byAge s g) (resultAt s g) ∙ length-ages g (slotOf s g) (right s g ok)
+
+  pub full : emptySlot s g ≡ Nothing → length (results s g) ≡ g .s
+  unfolding emptySlot
+  full e =
+      length-results
+      ∙ count-all (λ i. isUsed (slotOf s g i)) (g .s) (λ i l. not-false _ (least-nothing (λ j. not (isUsed (slotOf s g j))) (g .s) e i l))
+
+  pub not-full : (x : ℕ) → emptySlot s g ≡ At x → length (results s g) < g .s
+  not-full x e = let w = empty-at s g x e in rw length-results (count-less (λ i. isUsed (slotOf s g i)) (g .s) x (w .0) (w .1))
