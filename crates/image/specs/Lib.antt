@@ -1,4 +1,5 @@
 pub mod Valid
 pub mod Shelf
 pub mod Length
+pub mod Keeps
 pub mod Bench

@@ -67,25 +67,24 @@ module _ (s : List ℕ) (g : Geometry) (f : Framed s g) (drive n : ℕ) (t : Lis
         others = emptied-others e ∙ h .others;
       }
 
-pub length-dropped : (s : List ℕ) (g : Geometry) (drive : ℕ) → length (dropped s g drive) ≡ length s
+-- what each release keeps, all of them keep
+drop-keeps : (s : List ℕ) (g : Geometry) (drive : ℕ) (P : List ℕ → Type 0) → ((t : List ℕ) (n : ℕ) → n < g .s → P t → P (released t g n)) → P s
+    → P (dropped s g drive)
 unfolding dropped droppedTo dropOne
-length-dropped s g drive = to (g .s)
+drop-keeps s g drive P keep start = to (g .s) (omega arith)
   where
-    to : (n : ℕ) → length (droppedTo g drive n s) ≡ length s
-    to zero = refl
-    to (suc n) =
-        let t = droppedTo g drive n s in
-        on-test (λ (r : List ℕ). length r ≡ length t) (ofDrive drive (slotOf t g n)) (λ h. length-released t g n) (λ h. refl) ∙ to n
-
-pub drop-part : (s : List ℕ) (g : Geometry) (drive a m : ℕ) → Outside g a m → part (dropped s g drive) a m ≡ part s a m
-unfolding dropped droppedTo dropOne
-drop-part s g drive a m o = to (g .s) (omega arith)
-  where
-    to : (n : ℕ) → n ≤ g .s → part (droppedTo g drive n s) a m ≡ part s a m
-    to zero l = refl
+    to : (n : ℕ) → n ≤ g .s → P (droppedTo g drive n s)
+    to zero l = start
     to (suc n) l =
         let t = droppedTo g drive n s in
-        on-test (λ (r : List ℕ). part r a m ≡ part t a m) (ofDrive drive (slotOf t g n)) (λ h. release-part t g n a m l o) (λ h. refl) ∙ to n (omega arith)
+        let h = to n (omega arith) in
+        on-test P (ofDrive drive (slotOf t g n)) (λ e. keep t n l h) (λ e. h)
+
+pub length-dropped : (s : List ℕ) (g : Geometry) (drive : ℕ) → length (dropped s g drive) ≡ length s
+length-dropped s g drive = drop-keeps s g drive (λ (t : List ℕ). length t ≡ length s) (λ t n l e. length-released t g n ∙ e) refl
+
+pub drop-part : (s : List ℕ) (g : Geometry) (drive a m : ℕ) → Outside g a m → part (dropped s g drive) a m ≡ part s a m
+drop-part s g drive a m o = drop-keeps s g drive (λ (t : List ℕ). part t a m ≡ part s a m) (λ t n l e. release-part t g n a m l o ∙ e) refl
 
 module _ (s : List ℕ) (g : Geometry) (f : Framed s g) (ok : slotsOk s g ≡ true) (drive : ℕ) where
   emptied : (n : ℕ) → n ≤ g .s → Emptied s g drive n (droppedTo g drive n s)

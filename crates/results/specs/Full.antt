@@ -16,11 +16,10 @@ use Rattle.rules.specs.Least.{least-nothing}
 use Rattle.geometry.specs.declared.Geometry.{Geometry}
 use Rattle.slots.specs.Record.{slotOf, isUsed}
 use Rattle.slots.specs.Slots.{usedCount, slotsOk}
-use Rattle.slots.specs.Facts.{right}
+use Rattle.slots.specs.Facts.{empty-inside, right}
 use Rattle.slots.specs.Find.{emptySlot}
 use Rattle.results.specs.Members.{length-ages}
 use Rattle.results.specs.Results.{resultAt, byAge, results}
-use Rattle.results.specs.Retain.{empty-at}
 
 module _ (p : ℕ → Bool) where
   -- all have p
@@ -50,4 +49,4 @@ module _ (s : List ℕ) (g : Geometry) (ok : slotsOk s g ≡ true) where
       ∙ count-all (λ i. isUsed (slotOf s g i)) (g .s) (λ i l. not-false _ (least-nothing (λ j. not (isUsed (slotOf s g j))) (g .s) e i l))
 
   pub not-full : (x : ℕ) → emptySlot s g ≡ At x → length (results s g) < g .s
-  not-full x e = let w = empty-at s g x e in rw length-results (count-less (λ i. isUsed (slotOf s g i)) (g .s) x (w .0) (w .1))
+  not-full x e = let w = empty-inside s g x e in rw length-results (count-less (λ i. isUsed (slotOf s g i)) (g .s) x (w .0) (w .1))

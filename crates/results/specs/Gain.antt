@@ -30,14 +30,17 @@ module _ (g : Geometry) (f f′ : ℕ → Slot) (x : ℕ) (h : Right g f) (c : G
   new-used = used-is g (usedIn g f + 1) (f′ x) (c .new)
 
   pub gain-count : usedIn g f′ ≡ usedIn g f + 1
-  gain-count = count-gone (λ i. isUsed (f′ i)) (λ i. isUsed (f i)) (g .s) x (c .inside) new-used (c .empty) (λ j l ne. ap isUsed (sym (c .rest j l ne)))
+  gain-count =
+      count-gone (λ i. isUsed (f′ i)) (λ i. isUsed (f i)) (g .s) x (c .inside) new-used (c .empty)
+      (λ j l ne. ap isUsed (sym (c .rest j l ne)))
 
   gain-ok : (j : ℕ) → j < g .s → slotOk g (usedIn g f + 1) (f′ j) ≡ true
   gain-ok j l =
       let k = usedIn g f in
       ⊎-elim (λ e. rw e (used-ok g (k + 1) (f′ x) new-used (c .new)))
       (λ ne. ap (slotOk g (k + 1)) (c .rest j l ne)
-      ∙ ⊎-elim (λ u. let w = used-at g f h j l u in used-ok g (k + 1) (f j) u (used-ranked g k (k + 1) (f j .rank) (f j) w (w .rank-low) (omega arith)))
+      ∙ ⊎-elim
+      (λ u. let w = used-at g f h j l u in used-ok g (k + 1) (f j) u (used-ranked g k (k + 1) (f j .rank) (f j) w (w .rank-low) (omega arith)))
       (λ u. empty-any g k (k + 1) (f j) u (h .ok j l)) (either (isUsed (f j))))
       (same j x)
 

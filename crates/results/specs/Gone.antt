@@ -4,10 +4,9 @@ use Prim.Native.Nat.{ℕ, zero, suc, _+_, _≤_, _<_}
 use native.Mathlib.Numerals.{add-one}
 use native.Mathlib.Omega.{arith}
 use mathlib.Core.Bool.{true, not, false≢true}
-use mathlib.Core.Path.{_≡_, sym, ap, ap₂, _∙_}
+use mathlib.Core.Path.{_≡_, sym, ap, _∙_}
 use mathlib.Core.Logic.{⊎-elim}
 use mathlib.Core.List.{List, _∷_}
-use lib.Dec.{eqb}
 use borrow.Author.Tests.{eq-eqb, ne-eqb}
 use Rattle.rules.specs.Cases.{either, same, order, agree}
 use Rattle.rules.specs.Count.{countBelow, count-ext, count-gone}
@@ -19,7 +18,8 @@ use Rattle.slots.specs.Facts.{Used, used-ok, empty-is, zero-ok, usedIn, Right}
 use Rattle.results.specs.Lists.{keep-none, keep-hit, keep-miss}
 use Rattle.results.specs.Ages.{slotRanked, agesTo, ages, without}
 use Rattle.results.specs.Ranks.{has-rank, rank-has, not-rank, used-at, rank-apart, ranked-is, ranked-at, ranked-same, used-ranked}
-use Rattle.results.specs.Lower.{lowerRank, lowerSlot, rankBefore, lower-below, before-below, before-above, before-other, lower-before, before-lower, lower-in}
+use Rattle.results.specs.Lower.{lowerRank, lowerSlot, lower-below, lower-in}
+use Rattle.results.specs.Lower.{rankBefore, before-below, before-above, before-other, lower-before, before-lower}
 
 -- the slots f′ are f with x emptied
 pub record Lost (g : Geometry) (f f′ : ℕ → Slot) (x : ℕ) : Type 0 where
@@ -31,7 +31,8 @@ pub record Lost (g : Geometry) (f f′ : ℕ → Slot) (x : ℕ) : Type 0 where
 module _ (g : Geometry) (f f′ : ℕ → Slot) (x : ℕ) (h : Right g f) (c : Lost g f f′ x) where
   pub gone-count : usedIn g f ≡ usedIn g f′ + 1
   gone-count =
-      count-gone (λ i. isUsed (f i)) (λ i. isUsed (f′ i)) (g .s) x (c .inside) (c .used) (ap isUsed (c .zeroed)) (λ j l ne. ap isUsed (c .rest j l ne))
+      count-gone (λ i. isUsed (f i)) (λ i. isUsed (f′ i)) (g .s) x (c .inside) (c .used) (ap isUsed (c .zeroed))
+      (λ j l ne. ap isUsed (c .rest j l ne))
 
   at-x : Used g (usedIn g f) (f x)
   at-x = used-at g f h x (c .inside) (c .used)
@@ -79,17 +80,22 @@ module _ (g : Geometry) (f f′ : ℕ → Slot) (x : ℕ) (h : Right g f) (c : L
 
   -- ---- by age
 
-  kept : (n : ℕ) → n < usedIn g f → (suc n ≡ f x .rank → ⊥) → not (eqb (slotRanked g f (suc n)) x) ≡ true
-  kept n l ne = ap not (ne-eqb _ _ (λ e. ne (sym (ranked-at g f h n l .2) ∙ ap (λ (i : ℕ). f i .rank) e)))
+  -- a slot that keeps its place in the list: it had rank n + 1, which becomes m + 1
+  passed : (m n : ℕ) (xs : List ℕ) → n < usedIn g f → rankBefore (f x .rank) (suc m) ≡ suc n
+      → without x (slotRanked g f (suc n) ∷ xs) ≡ slotRanked g f′ (suc m) ∷ without x xs
+  passed m n xs l e =
+      let other : slotRanked g f (suc n) ≡ x → ⊥ =
+      (λ q. before-other (f x .rank) (suc m) (e ∙ sym (ranked-at g f h n l .2) ∙ ap (λ (i : ℕ). f i .rank) q)) in
+      keep-hit _ _ _ (ap not (ne-eqb _ _ other))
+      ∙ ap (λ (i : ℕ). i ∷ without x xs) (sym (ranked-same g f f′ (suc m) _ (moved (suc m)) ∙ ap (slotRanked g f) e))
 
+  -- the lower ranks stay, rank r goes, the higher ranks fall
   low : (n : ℕ) → n < f x .rank → without x (agesTo g f n) ≡ agesTo g f′ n
   unfolding agesTo
   low zero l = keep-none _
   low (suc n) l =
       let v = at-x in
-      keep-hit _ _ _ (kept n (omega arith) (λ e. omega arith))
-      ∙ ap₂ (λ (i : ℕ) (t : List ℕ). i ∷ t) (sym (ranked-same g f f′ (suc n) _ (moved (suc n)) ∙ ap (slotRanked g f) (before-below (f x .rank) (suc n) l)))
-      (low n (omega arith))
+      passed n n _ (omega arith) (before-below (f x .rank) (suc n) l) ∙ ap (λ (t : List ℕ). slotRanked g f′ (suc n) ∷ t) (low n (omega arith))
 
   here : (n : ℕ) → f x .rank ≡ suc n → without x (agesTo g f (suc n)) ≡ agesTo g f′ n
   unfolding agesTo
@@ -99,11 +105,8 @@ module _ (g : Geometry) (f f′ : ℕ → Slot) (x : ℕ) (h : Right g f) (c : L
   unfolding agesTo
   high zero l lk = let v = at-x in here 0 (omega arith)
   high (suc n) l lk =
-      ⊎-elim
-      (λ (b : suc n < f x .rank). here (suc n) (omega arith))
-      (λ (b : f x .rank ≤ suc n). keep-hit _ _ _ (kept (suc n) lk (λ e. omega arith))
-      ∙ ap₂ (λ (i : ℕ) (t : List ℕ). i ∷ t) (sym (ranked-same g f f′ (suc n) _ (moved (suc n)) ∙ ap (slotRanked g f) (before-above (f x .rank) (suc n) b)))
-      (high n b (omega arith)))
+      ⊎-elim (λ b. here (suc n) (omega arith))
+      (λ b. passed n (suc n) _ lk (before-above (f x .rank) (suc n) b) ∙ ap (λ (t : List ℕ). slotRanked g f′ (suc n) ∷ t) (high n b (omega arith)))
       (order (suc n) (f x .rank))
 
   pub gone-ages : ages g f′ ≡ without x (ages g f)

@@ -22,7 +22,7 @@ use Rattle.geometry.specs.Places.{slot-after-table, slot-before-media, data-end
 use Rattle.slots.specs.declared.Slot.{Slot}
 use Rattle.slots.specs.declared.Best.{Best}
 use Rattle.slots.specs.Record.{recordOf, slotOf, isUsed}
-use Rattle.slots.specs.Slots.{slotOk, usedCount, hasRank, rankCount, slotsOk}
+use Rattle.slots.specs.Slots.{slotOk, usedCount, hasRank, rankCount, eachOk, ranksOk, slotsOk}
 use Rattle.slots.specs.Facts.{right}
 use Rattle.slots.specs.Find.{emptySlot, better, bestOf, newestOf}
 use Rattle.results.specs.Lists.{map-same}
@@ -59,7 +59,8 @@ module _ (s t : List ℕ) (g : Geometry) (p : Placed g) (e : slotBytes t g ≡ s
 
   pub kept-data : (i n : ℕ) → i < g .s → n ≤ g .m → part t (dataAt g i) (n * g .l) ≡ part s (dataAt g i) (n * g .l)
   kept-data i n l h =
-      kept-part (dataAt g i) (n * g .l) (omega (arith, slot-after-table g i p, p .slots-is)) (omega (arith, data-ends g i n h, slot-before-media g i p l))
+      kept-part (dataAt g i) (n * g .l) (omega (arith, slot-after-table g i p, p .slots-is))
+      (omega (arith, data-ends g i n h, slot-before-media g i p l))
 
   pub kept-count : usedCount t g ≡ usedCount s g
   kept-count = count-ext _ _ (g .s) (λ i l. ap isUsed (kept-slot i l))
@@ -68,7 +69,7 @@ module _ (s t : List ℕ) (g : Geometry) (p : Placed g) (e : slotBytes t g ≡ s
   kept-has n i l = ap (hasRank n) (kept-slot i l)
 
   pub kept-ok : slotsOk t g ≡ slotsOk s g
-  unfolding slotsOk
+  unfolding slotsOk eachOk ranksOk
   kept-ok =
       every-ext _ _ (
         all-ext _ _ (g .s) (λ i l. ap₂ (slotOk g) kept-count (kept-slot i l)),
@@ -94,7 +95,9 @@ module _ (s t : List ℕ) (g : Geometry) (p : Placed g) (e : slotBytes t g ≡ s
 
   kept-ages : ages g (slotOf t g) ≡ ages g (slotOf s g)
   kept-ages =
-      ap (agesTo g (slotOf t g)) kept-count ∙ ages-same g (slotOf s g) (slotOf t g) (usedCount s g) (λ m l. ranked-same g (slotOf s g) (slotOf t g) (suc m) (suc m) (kept-has (suc m)))
+      ap (agesTo g (slotOf t g)) kept-count
+      ∙ ages-same g (slotOf s g) (slotOf t g) (usedCount s g)
+      (λ m l. ranked-same g (slotOf s g) (slotOf t g) (suc m) (suc m) (kept-has (suc m)))
 
   pub kept-results : slotsOk s g ≡ true → results t g ≡ results s g
   unfolding results

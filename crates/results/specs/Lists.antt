@@ -31,7 +31,8 @@ module _ {A : Type 0} where
     -- all pass
     pub keep-all : (xs : List A) → ((x : A) → List·Memᴰ x xs → p x ≡ true) → keeping p xs ≡ xs
     keep-all [] h = keep-none
-    keep-all (x ∷ xs) h = keep-hit x xs (h x (List·Memᴰ·head refl)) ∙ ap (λ (r : List A). x ∷ r) (keep-all xs (λ y m. h y (List·Memᴰ·tail m)))
+    keep-all (x ∷ xs) h =
+        keep-hit x xs (h x (List·Memᴰ·head refl)) ∙ ap (λ (r : List A). x ∷ r) (keep-all xs (λ y m. h y (List·Memᴰ·tail m)))
 
 -- leaving out before what is left out after changes nothing
 pub keep-keep : {A B : Type 0} (f : A → B) (p : B → Bool) (q : A → Bool) (xs : List A) → ((x : A) → q x ≡ false → p (f x) ≡ false)
@@ -49,7 +50,8 @@ module _ {A B : Type 0} (f g : A → B) where
   map-same [] h = refl
   map-same (x ∷ xs) h = ap₂ (λ (y : B) (r : List B). y ∷ r) (h x (List·Memᴰ·head refl)) (map-same xs (λ y m. h y (List·Memᴰ·tail m)))
 
-  pub map-keeping : (p : A → Bool) (xs : List A) → ((x : A) → List·Memᴰ x xs → p x ≡ true → f x ≡ g x) → map f (keeping p xs) ≡ map g (keeping p xs)
+  pub map-keeping : (p : A → Bool) (xs : List A) → ((x : A) → List·Memᴰ x xs → p x ≡ true → f x ≡ g x)
+      → map f (keeping p xs) ≡ map g (keeping p xs)
   unfolding keeping
   map-keeping p [] h = refl
   map-keeping p (x ∷ xs) h =

@@ -9,7 +9,7 @@ use mathlib.Core.List.{List}
 use lib.Dec.{ltb}
 use lib.ListN.{length}
 use Rattle.octets.specs.Part.{part}
-use Rattle.octets.specs.Put.{length-put}
+use Rattle.octets.specs.Put.{put, length-put}
 use Rattle.octets.specs.PutPut.{part-put-apart}
 use Rattle.octets.specs.Number.{toBe, length-toBe}
 use Rattle.rules.specs.Cases.{either, last-or-below}
@@ -27,23 +27,22 @@ use Rattle.results.specs.Outside.{Outside}
 module _ (g : Geometry) (rank : ℕ) where
   -- ---- in one slot
   module _ (s : List ℕ) (i : ℕ) where
-    length-lower : length (lowerOne g rank i s) ≡ length s
+    -- its rank is written anew, or nothing is
+    lower-is : (P : List ℕ → Type 0) → ((v : ℕ) → P (put s (slotAt g i) (toBe 4 v))) → P s → P (lowerOne g rank i s)
     unfolding lowerOne
-    length-lower = on-test (λ (t : List ℕ). length t ≡ length s) (ltb rank (slotOf s g i .rank)) (λ h. length-put s _ _) (λ h. refl)
+    lower-is P hit miss = on-test P (ltb rank (slotOf s g i .rank)) (λ t. hit _) (λ t. miss)
+
+    length-lower : length (lowerOne g rank i s) ≡ length s
+    length-lower = lower-is (λ (t : List ℕ). length t ≡ length s) (λ v. length-put s _ _) refl
 
     lower-part : (a n : ℕ) → (a + n ≤ slotAt g i) ⊎ (slotAt g i + 16 ≤ a) → part (lowerOne g rank i s) a n ≡ part s a n
-    unfolding lowerOne
     lower-part a n o =
-        let v = slotOf s g i .rank - 1 in
-        on-test (λ (t : List ℕ). part t a n ≡ part s a n) (ltb rank (slotOf s g i .rank))
-        (λ h. part-put-apart s (slotAt g i) (toBe 4 v) a n (⊎-elim (λ l. inl l) (λ l. inr (omega (arith, length-toBe 4 v))) o)) (λ h. refl)
+        lower-is (λ (t : List ℕ). part t a n ≡ part s a n)
+        (λ v. part-put-apart s (slotAt g i) (toBe 4 v) a n (⊎-elim (λ l. inl l) (λ l. inr (omega (arith, length-toBe 4 v))) o)) refl
 
     lower-other : (j : ℕ) → (j ≡ i → ⊥) → slotOf (lowerOne g rank i s) g j ≡ slotOf s g j
-    unfolding lowerOne
     lower-other j ne =
-        let v = slotOf s g i .rank - 1 in
-        on-test (λ (t : List ℕ). slotOf t g j ≡ slotOf s g j) (ltb rank (slotOf s g i .rank))
-        (λ h. slot-other s g i j (toBe 4 v) ne (omega (arith, length-toBe 4 v))) (λ h. refl)
+        lower-is (λ (t : List ℕ). slotOf t g j ≡ slotOf s g j) (λ v. slot-other s g i j (toBe 4 v) ne (omega (arith, length-toBe 4 v))) refl
 
     lower-slot : slotAt g i + 16 ≤ length s → slotOf s g i .rank < 2 ^ 32 → slotOf (lowerOne g rank i s) g i ≡ lowerSlot rank (slotOf s g i)
     unfolding lowerOne lowerRank

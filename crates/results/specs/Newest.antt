@@ -41,8 +41,11 @@ module _ (g : Geometry) (f : ℕ → Slot) (h : Right g f) (p : ℕ → Bool) wh
   first-aged i l u pi most (suc n) r ln =
       let w = ranked-at g f h n ln in
       ⊎-elim
-      (λ b. let e : slotRanked g f (suc n) ≡ i = ap (slotRanked g f) (omega arith) ∙ ranked-is g f h i l u in first-hit p _ _ (ap p e ∙ pi) ∙ ap some e)
-      (λ b. ⊎-elim (λ t. absurd (omega (arith, most _ (w .0) t, w .2))) (λ t. first-miss p _ _ t ∙ first-aged i l u pi most n b (omega arith)) (either (p (slotRanked g f (suc n)))))
+      (λ b. let e : slotRanked g f (suc n) ≡ i = ap (slotRanked g f) (omega arith) ∙ ranked-is g f h i l u in
+      first-hit p _ _ (ap p e ∙ pi) ∙ ap some e)
+      (λ b. ⊎-elim (λ t. absurd (omega (arith, most _ (w .0) t, w .2)))
+      (λ t. first-miss p _ _ t ∙ first-aged i l u pi most n b (omega arith))
+      (either (p (slotRanked g f (suc n)))))
       (order n (f i .rank))
 
   -- without what is found first, the list is without the first
@@ -59,7 +62,8 @@ module _ (g : Geometry) (f : ℕ → Slot) (h : Right g f) (p : ℕ → Bool) wh
       (λ j m. let a = aged-in g f h n j (omega arith) m in ap not (ne-eqb j i (λ k. omega (arith, w .2, ap (λ (y : ℕ). f y .rank) (k ∙ sym q)))))
       ∙ sym (sans-hit p x (agesTo g f n) t))
       (λ t. let d : firstOf p (agesTo g f n) ≡ some i = sym (first-miss p x (agesTo g f n) t) ∙ e in
-      keep-hit (λ j. not (eqb j i)) x (agesTo g f n) (ap not (ne-eqb x i (λ q. true≢false (sym (first-passes p (agesTo g f n) i d) ∙ ap p (sym q) ∙ t))))
+      keep-hit (λ j. not (eqb j i)) x (agesTo g f n)
+      (ap not (ne-eqb x i (λ q. true≢false (sym (first-passes p (agesTo g f n) i d) ∙ ap p (sym q) ∙ t))))
       ∙ ap (λ (r : List ℕ). x ∷ r) (sans-aged i n (omega arith) d)
       ∙ sym (sans-miss p x (agesTo g f n) t))
       (either (p x))
@@ -85,7 +89,8 @@ module _ (s : List ℕ) (g : Geometry) (ok : slotsOk s g ≡ true) (drive block 
       let w = newest-at s g drive block i e in
       let u : isUsed (slotOf s g i) ≡ true = holds _ 0 (w .asked) in
       let v = used-at g (slotOf s g) (right s g ok) i (w .inside) u in
-      first-aged g (slotOf s g) (right s g ok) (wantedAt s g drive block) i (w .inside) u (w .asked) (w .most) (usedIn g (slotOf s g)) (v .rank-high) (omega arith)
+      first-aged g (slotOf s g) (right s g ok) (wantedAt s g drive block) i (w .inside) u (w .asked) (w .most) (usedIn g (slotOf s g))
+      (v .rank-high) (omega arith)
 
   first-nothing : newestOf s g drive block ≡ Nothing → firstOf (wantedAt s g drive block) (byAge s g) ≡ none
   first-nothing e =
@@ -116,10 +121,12 @@ module _ (s : List ℕ) (g : Geometry) (ok : slotsOk s g ≡ true) (drive block 
   newest-missing e = first-result ∙ ap (Option·map (resultAt s g)) (first-nothing e)
 
   -- and it alone goes
-  pub newest-goes : Framed s g → (i : ℕ) → newestOf s g drive block ≡ At i → results (released s g i) g ≡ sansFirst (answers drive block) (results s g)
+  pub newest-goes : Framed s g → (i : ℕ) → newestOf s g drive block ≡ At i
+      → results (released s g i) g ≡ sansFirst (answers drive block) (results s g)
   unfolding results
   newest-goes f i e =
       let w = newest-at s g drive block i e in
       release-results s g f ok i (w .inside) (holds _ 0 (w .asked))
-      ∙ ap (map (resultAt s g)) (sans-aged g (slotOf s g) (right s g ok) (wantedAt s g drive block) i (usedIn g (slotOf s g)) (omega arith) (first-newest i e))
+      ∙ ap (map (resultAt s g))
+      (sans-aged g (slotOf s g) (right s g ok) (wantedAt s g drive block) i (usedIn g (slotOf s g)) (omega arith) (first-newest i e))
       ∙ sym (sans-map (resultAt s g) (answers drive block) (wantedAt s g drive block) (byAge s g) answers-is)

@@ -39,8 +39,9 @@ pub ranked-only : (g : Geometry) (f : ℕ → Slot) (n i : ℕ) → i < g .s →
 unfolding slotRanked
 ranked-only g f n i l h o = ap orZero (least-only (λ j. hasRank n (f j)) (g .s) i l h o)
 
--- two ranks of two shelves that the same slots have
-pub ranked-same : (g : Geometry) (f f′ : ℕ → Slot) (n m : ℕ) → ((j : ℕ) → j < g .s → hasRank n (f′ j) ≡ hasRank m (f j)) → slotRanked g f′ n ≡ slotRanked g f m
+-- the slot of rank n of f′ is the one of rank m of f
+pub ranked-same : (g : Geometry) (f f′ : ℕ → Slot) (n m : ℕ)
+    → ((j : ℕ) → j < g .s → hasRank n (f′ j) ≡ hasRank m (f j)) → slotRanked g f′ n ≡ slotRanked g f m
 unfolding slotRanked
 ranked-same g f f′ n m h = ap orZero (least-ext (λ j. hasRank n (f′ j)) (λ j. hasRank m (f j)) (g .s) h)
 
@@ -64,7 +65,8 @@ module _ (g : Geometry) (f : ℕ → Slot) (h : Right g f) where
       (λ j lj ne. not-rank (f i .rank) (f j) (λ uj e. ne (rank-apart j i lj l uj u e)))
 
   -- each rank of 1 to k is some used slot's
-  pub ranked-at : (n : ℕ) → n < usedIn g f → (slotRanked g f (suc n) < g .s) × (isUsed (f (slotRanked g f (suc n))) ≡ true) × (f (slotRanked g f (suc n)) .rank ≡ suc n)
+  pub ranked-at : (n : ℕ) → n < usedIn g f
+      → (slotRanked g f (suc n) < g .s) × (isUsed (f (slotRanked g f (suc n))) ≡ true) × (f (slotRanked g f (suc n)) .rank ≡ suc n)
   ranked-at n l =
       let w = count-some (λ a. hasRank (n + 1) (f a)) (g .s) (omega (arith, h .once n l)) in
       let b = rank-has (n + 1) (f (w .0)) (w .1 .1) in
@@ -90,7 +92,9 @@ used-ranked g k k′ n r w a b =
 pub empty-any : (g : Geometry) (k k′ : ℕ) (r : Slot) → isUsed r ≡ false → slotOk g k r ≡ true → slotOk g k′ r ≡ true
 empty-any g k k′ r u e = ap (slotOk g k′) (empty-is g k r u e) ∙ zero-ok g k′
 
-pub ages-same : (g : Geometry) (f f′ : ℕ → Slot) (n : ℕ) → ((m : ℕ) → m < n → slotRanked g f′ (suc m) ≡ slotRanked g f (suc m)) → agesTo g f′ n ≡ agesTo g f n
+-- two lists by age with the same slots, and one with a rank more
+pub ages-same : (g : Geometry) (f f′ : ℕ → Slot) (n : ℕ)
+    → ((m : ℕ) → m < n → slotRanked g f′ (suc m) ≡ slotRanked g f (suc m)) → agesTo g f′ n ≡ agesTo g f n
 unfolding agesTo
 ages-same g f f′ zero h = refl
 ages-same g f f′ (suc n) h = ap₂ (λ (i : ℕ) (r : List ℕ). i ∷ r) (h n (omega arith)) (ages-same g f f′ n (λ m l. h m (omega arith)))

@@ -41,8 +41,7 @@ length-released s g x = length-lowered g _ _ (g .s) ∙ length-put s _ _
 pub release-part : (s : List ℕ) (g : Geometry) (x a n : ℕ) → x < g .s → Outside g a n → part (released s g x) a n ≡ part s a n
 unfolding released
 release-part s g x a n l o =
-    lowered-part g _ _ (g .s) a n (omega arith) o
-    ∙ part-put-apart s (slotAt g x) (replicate 16 0) a n (o x l)
+    lowered-part g _ _ (g .s) a n (omega arith) o ∙ part-put-apart s (slotAt g x) (replicate 16 0) a n (o x l)
 
 module _ (s : List ℕ) (g : Geometry) (f : Framed s g) (ok : slotsOk s g ≡ true) where
   -- ranks are small
@@ -66,7 +65,9 @@ module _ (s : List ℕ) (g : Geometry) (f : Framed s g) (ok : slotsOk s g ≡ tr
 
     zeroed-small : (j : ℕ) → j < g .s → slotOf zeroed g j .rank < 2 ^ 32
     zeroed-small j lj =
-        ⊎-elim (λ e. omega (arith, ap (λ (t : Slot). t .rank) (ap (slotOf zeroed g) e ∙ zeroed-x))) (λ ne. rw (zeroed-other j ne) (rank-small j lj)) (same j x)
+        ⊎-elim (λ e. omega (arith, ap (λ (t : Slot). t .rank) (ap (slotOf zeroed g) e ∙ zeroed-x)))
+        (λ ne. rw (zeroed-other j ne) (rank-small j lj))
+        (same j x)
 
     lowered-all : (j : ℕ) → j < g .s → slotOf (released s g x) g j ≡ lowerSlot (slotOf s g x .rank) (slotOf zeroed g j)
     unfolding released

@@ -79,7 +79,8 @@ module _ (s : List ℕ) (g : Geometry) (f : Framed s g) (ok : slotsOk s g ≡ tr
         len-low = w .len-low;
         len-high = w .len-high;
         range-in = w .range-in;
-        exact = length-part s (dataAt g i) (slotOf s g i .len * g .l) (omega (arith, data-ends g i (slotOf s g i .len) (w .len-high), slot-room s g i f l));
+        exact = length-part s (dataAt g i) (slotOf s g i .len * g .l)
+            (omega (arith, data-ends g i (slotOf s g i .len) (w .len-high), slot-room s g i f l));
       }
 
   pub results-sound : (r : Result) → List·Memᴰ r (results s g) → Sound g r

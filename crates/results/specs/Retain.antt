@@ -2,20 +2,18 @@
 -- Assumes nothing.
 use Prim.Native.Nat.{ℕ, _+_, _*_, _≤_, _<_}
 use native.Mathlib.Omega.{arith}
-use mathlib.Core.Bool.{true, false, not, true≢false}
+use mathlib.Core.Bool.{true, true≢false}
 use mathlib.Core.Path.{_≡_, refl, sym, ap, ap₂, _∙_}
 use mathlib.Core.Logic.{_⊎_, inl, inr, ⊎-elim}
 use mathlib.Core.List.{List, _∷_, _++_, map}
 use lib.ListN.{length, length-append}
 use lib.Seq.{take-length, drop-at}
-use borrow.Author.Tests.{not-true}
 use Rattle.octets.specs.Part.{part}
 use Rattle.octets.specs.Put.{put, length-put}
 use Rattle.octets.specs.PutPut.{part-put-of, part-put-apart}
 use Rattle.rules.specs.declared.Found.{Found}
 use Rattle.rules.specs.declared.Found.the-variants.{At, Nothing}
 use Rattle.rules.specs.Count.{count-le}
-use Rattle.rules.specs.Least.{least-inside}
 use Rattle.geometry.specs.declared.Geometry.{Geometry}
 use Rattle.geometry.specs.Header.{slotAt, dataAt}
 use Rattle.geometry.specs.Frame.{Framed}
@@ -24,7 +22,7 @@ use Rattle.slots.specs.declared.Slot.{Slot}
 use Rattle.slots.specs.Record.{slotOf, bytesOf, isUsed}
 use Rattle.slots.specs.RecordLaws.{Small, length-bytes}
 use Rattle.slots.specs.Slots.{usedCount, slotsOk}
-use Rattle.slots.specs.Facts.{Used, right, right-ok}
+use Rattle.slots.specs.Facts.{Used, empty-inside, right, right-ok}
 use Rattle.slots.specs.Find.{emptySlot}
 use Rattle.slots.specs.Change.{entered, retained}
 use Rattle.slots.specs.Stored.{slot-put, slot-other}
@@ -40,39 +38,39 @@ part-append-back : (xs ys : List ℕ) (n m : ℕ) → length xs ≡ n → length
 unfolding part
 part-append-back xs ys n m e d = rw (drop-at xs ys n e, ← d) (take-length ys)
 
--- slot x filled with a result
+-- its record, and slot x filled with it
+abbrev newRecord : List ℕ → Geometry → Result → Slot
+newRecord s g r = recordAt (usedCount s g + 1) r
+
 abbrev filled : List ℕ → Geometry → ℕ → Result → List ℕ
-filled s g x r = put s (slotAt g x) (bytesOf (recordAt (usedCount s g + 1) r) ++ r .bytes)
+filled s g x r = put s (slotAt g x) (bytesOf (newRecord s g r) ++ r .bytes)
 
 retain-is : (s : List ℕ) (g : Geometry) (x : ℕ) (r : Result) → emptySlot s g ≡ At x → withResult s g r ≡ filled s g x r
 unfolding retained
-retain-is s g x r e = ap (λ (t : Found). entered t s g (recordAt (usedCount s g + 1) r) (r .bytes)) e
-
--- the slot that takes a result is empty
-pub empty-at : (s : List ℕ) (g : Geometry) (x : ℕ) → emptySlot s g ≡ At x → (x < g .s) × (isUsed (slotOf s g x) ≡ false)
-unfolding emptySlot
-empty-at s g x e = let w = least-inside (λ i. not (isUsed (slotOf s g i))) (g .s) x e in (w .0, not-true _ (w .1))
+retain-is s g x r e = ap (λ (t : Found). entered t s g (newRecord s g r) (r .bytes)) e
 
 pub length-retained : (s : List ℕ) (g : Geometry) (r : Result) → length (withResult s g r) ≡ length s
 unfolding retained
 length-retained s g r = by (emptySlot s g)
   where
-    by : (t : Found) → length (entered t s g (recordAt (usedCount s g + 1) r) (r .bytes)) ≡ length s
+    by : (t : Found) → length (entered t s g (newRecord s g r) (r .bytes)) ≡ length s
     by (At x) = length-put s _ _
     by Nothing = refl
 
-module _ (s : List ℕ) (g : Geometry) (f : Framed s g) (ok : slotsOk s g ≡ true) (x : ℕ) (e : emptySlot s g ≡ At x) (r : Result) (w : Sound g r) where
+module _ (s : List ℕ) (g : Geometry) (f : Framed s g) (ok : slotsOk s g ≡ true) (x : ℕ) (e : emptySlot s g ≡ At x) (r : Result)
+    (w : Sound g r) where
   inside : x < g .s
-  inside = empty-at s g x e .0
+  inside = empty-inside s g x e .0
 
   -- record and bytes end within the slot
-  size : length (bytesOf (recordAt (usedCount s g + 1) r) ++ r .bytes) ≡ 16 + r .len * g .l
-  size = length-append (bytesOf (recordAt (usedCount s g + 1) r)) (r .bytes) ∙ ap₂ (λ (a b : ℕ). a + b) (length-bytes (recordAt (usedCount s g + 1) r)) (w .exact)
+  size : length (bytesOf (newRecord s g r) ++ r .bytes) ≡ 16 + r .len * g .l
+  size =
+      length-append (bytesOf (newRecord s g r)) (r .bytes) ∙ ap₂ (λ (a b : ℕ). a + b) (length-bytes (newRecord s g r)) (w .exact)
 
   room : slotAt g x + (16 + r .len * g .l) ≤ length s
   room = omega (arith, data-ends g x (r .len) (w .len-high), slot-room s g x f inside)
 
-  small : Small (recordAt (usedCount s g + 1) r)
+  small : Small (newRecord s g r)
   small =
       record {
         rank-small = omega (arith, count-le (λ i. isUsed (slotOf s g i)) (g .s), f .placed .ranges .s-high);
@@ -83,13 +81,13 @@ module _ (s : List ℕ) (g : Geometry) (f : Framed s g) (ok : slotsOk s g ≡ tr
         last-small = omega arith;
       }
 
-  filled-x : slotOf (filled s g x r) g x ≡ recordAt (usedCount s g + 1) r
-  filled-x = slot-put s g x (omega (arith, room)) (recordAt (usedCount s g + 1) r) (r .bytes) (omega (arith, room)) small
+  filled-x : slotOf (filled s g x r) g x ≡ newRecord s g r
+  filled-x = slot-put s g x (omega (arith, room)) (newRecord s g r) (r .bytes) (omega (arith, room)) small
 
   filled-other : (j : ℕ) → (j ≡ x → ⊥) → slotOf (filled s g x r) g j ≡ slotOf s g j
   filled-other j ne = slot-other s g x j _ ne (omega (arith, size, data-ends g x (r .len) (w .len-high)))
 
-  new-used : Used g (usedCount s g + 1) (recordAt (usedCount s g + 1) r)
+  new-used : Used g (usedCount s g + 1) (newRecord s g r)
   new-used =
       record {
         kind-low = w .kind-low;
@@ -107,14 +105,17 @@ module _ (s : List ℕ) (g : Geometry) (f : Framed s g) (ok : slotsOk s g ≡ tr
   gained =
       record {
         inside = inside;
-        empty = empty-at s g x e .1;
+        empty = empty-inside s g x e .1;
         new = rw filled-x new-used;
         top = ap (λ (t : Slot). t .rank) filled-x;
         rest = λ j l ne. filled-other j ne;
       }
 
+  -- no byte changes but the slot's record and the front of its data
   pub retain-part : (a n : ℕ) → (a + n ≤ slotAt g x) ⊎ (dataAt g x + r .len * g .l ≤ a) → part (withResult s g r) a n ≡ part s a n
-  retain-part a n o = ap (λ (t : List ℕ). part t a n) (retain-is s g x r e) ∙ part-put-apart s (slotAt g x) _ a n (⊎-elim (λ l. inl l) (λ l. inr (omega (arith, size))) o)
+  retain-part a n o =
+      ap (λ (t : List ℕ). part t a n) (retain-is s g x r e)
+      ∙ part-put-apart s (slotAt g x) _ a n (⊎-elim (λ l. inl l) (λ l. inr (omega (arith, size))) o)
 
   pub retain-away : (a n : ℕ) → Away g a n → part (withResult s g r) a n ≡ part s a n
   retain-away a n o =
@@ -133,17 +134,19 @@ module _ (s : List ℕ) (g : Geometry) (f : Framed s g) (ok : slotsOk s g ≡ tr
   unfolding resultAt
   new-result =
       ap (λ (t : Slot). resultOf t (part (filled s g x r) (dataAt g x) (t .len * g .l))) filled-x
-      ∙ ap (resultOf (recordAt (usedCount s g + 1) r))
+      ∙ ap (resultOf (newRecord s g r))
       (part-put-of s (slotAt g x) _ 16 (r .len * g .l) (omega (arith, size, room)) (omega (arith, size))
-      ∙ part-append-back (bytesOf (recordAt (usedCount s g + 1) r)) (r .bytes) 16 (r .len * g .l) (length-bytes (recordAt (usedCount s g + 1) r)) (w .exact))
+      ∙ part-append-back (bytesOf (newRecord s g r)) (r .bytes) 16 (r .len * g .l) (length-bytes (newRecord s g r)) (w .exact))
 
   old-result : (i : ℕ) → i < g .s → isUsed (slotOf s g i) ≡ true → resultAt (filled s g x r) g i ≡ resultAt s g i
   old-result i l u =
       let v = used-at g (slotOf s g) (right s g ok) i l u in
-      let ne : i ≡ x → ⊥ = (λ q. true≢false (sym u ∙ ap (λ (j : ℕ). isUsed (slotOf s g j)) q ∙ empty-at s g x e .1)) in
+      let ne : i ≡ x → ⊥ = (λ q. true≢false (sym u ∙ ap (λ (j : ℕ). isUsed (slotOf s g j)) q ∙ empty-inside s g x e .1)) in
       result-same s (filled s g x r) g i (slotOf s g i .rank) (filled-other i ne)
       (part-put-apart s (slotAt g x) _ (dataAt g i) (slotOf s g i .len * g .l)
-      (⊎-elim (λ b. inl (omega (arith, data-ends g i (slotOf s g i .len) (v .len-high)))) (λ b. inr (omega (arith, size, data-ends g x (r .len) (w .len-high)))) (slots-apart g i x ne)))
+      (⊎-elim (λ b. inl (omega (arith, data-ends g i (slotOf s g i .len) (v .len-high))))
+      (λ b. inr (omega (arith, size, data-ends g x (r .len) (w .len-high))))
+      (slots-apart g i x ne)))
 
   -- "A new result takes the lowest-numbered empty slot and rank k+1": it is the newest, and the others stay as they are
   pub retain-results : results (withResult s g r) g ≡ r ∷ results s g
@@ -153,4 +156,5 @@ module _ (s : List ℕ) (g : Geometry) (f : Framed s g) (ok : slotsOk s g ≡ tr
       ap (λ (t : List ℕ). map (resultAt t g) (byAge t g)) (retain-is s g x r e)
       ∙ ap (map (resultAt (filled s g x r) g)) (gain-ages g (slotOf s g) (slotOf (filled s g x r) g) x h gained)
       ∙ ap₂ (λ (t : Result) (ts : List Result). t ∷ ts) new-result
-      (map-same (resultAt (filled s g x r) g) (resultAt s g) (byAge s g) (λ i m. let b = ages-in g (slotOf s g) h i m in old-result i (b .0) (b .1)))
+      (map-same (resultAt (filled s g x r) g) (resultAt s g) (byAge s g)
+      (λ i m. let b = ages-in g (slotOf s g) h i m in old-result i (b .0) (b .1)))

@@ -1,0 +1,4 @@
+pub mod Acts
+pub mod Allowed
+pub mod Sources
+pub mod Checks
