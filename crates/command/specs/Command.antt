@@ -49,27 +49,45 @@ zeroBits Unknown = 0
 unfoldable pub sixteenOf : Op → List ℕ → Command
 sixteenOf o c =
     record {
-      op = o; flags = getD c 1 0; six = 0; control = getD c 15 0;
-      block = record { 0 = be 4 c 2 }; count = be 2 c 6; list = 0;
-      second = record { 0 = be 3 c 8 }; spot = record { 0 = be 4 c 11 };
+      op = o;
+      flags = getD c 1 0;
+      six = 0;
+      control = getD c 15 0;
+      block = record { 0 = be 4 c 2 };
+      count = be 2 c 6;
+      list = 0;
+      second = record { 0 = be 3 c 8 };
+      spot = record { 0 = be 4 c 11 };
     }
 
 -- "block 2-5, length 7-8"
 unfoldable pub tenOf : Op → List ℕ → Command
 tenOf o c =
     record {
-      op = o; flags = getD c 1 0; six = getD c 6 0; control = getD c 9 0;
-      block = record { 0 = be 4 c 2 }; count = be 2 c 7; list = 0;
-      second = record { 0 = 0 }; spot = record { 0 = 0 };
+      op = o;
+      flags = getD c 1 0;
+      six = getD c 6 0;
+      control = getD c 9 0;
+      block = record { 0 = be 4 c 2 };
+      count = be 2 c 7;
+      list = 0;
+      second = record { 0 = 0 };
+      spot = record { 0 = 0 };
     }
 
 -- "length 2-5, list length 7-8"
 unfoldable pub listedOf : Op → List ℕ → Command
 listedOf o c =
     record {
-      op = o; flags = getD c 1 0; six = getD c 6 0; control = getD c 9 0;
-      block = record { 0 = 0 }; count = be 4 c 2; list = be 2 c 7;
-      second = record { 0 = 0 }; spot = record { 0 = 0 };
+      op = o;
+      flags = getD c 1 0;
+      six = getD c 6 0;
+      control = getD c 9 0;
+      block = record { 0 = 0 };
+      count = be 4 c 2;
+      list = be 2 c 7;
+      second = record { 0 = 0 };
+      spot = record { 0 = 0 };
     }
 
 -- "Fields"
@@ -115,9 +133,15 @@ pub record Fits (k : Command) : Type 0 where
 unfoldable pub ownOf : Command → List ℕ → Command
 ownOf k s =
     record {
-      op = k .op; flags = k .flags; six = k .six; control = k .control;
-      block = record { 0 = be 4 s 4 }; count = k .count; list = k .list;
-      second = k .second; spot = k .spot;
+      op = k .op;
+      flags = k .flags;
+      six = k .six;
+      control = k .control;
+      block = record { 0 = be 4 s 4 };
+      count = k .count;
+      list = k .list;
+      second = k .second;
+      spot = k .spot;
     }
 
 -- "then 8 bytes per source: address, block"
@@ -131,9 +155,15 @@ resolvedCount n b B = cond (eqb n 0xFFFFFFFF) (cond (leb B b) n (B - b)) n
 unfoldable pub resolvedOf : Command → ℕ → Command
 resolvedOf k B =
     record {
-      op = k .op; flags = k .flags; six = k .six; control = k .control;
-      block = k .block; count = resolvedCount (k .count) (k .block .0) B; list = k .list;
-      second = k .second; spot = k .spot;
+      op = k .op;
+      flags = k .flags;
+      six = k .six;
+      control = k .control;
+      block = k .block;
+      count = resolvedCount (k .count) (k .block .0) B;
+      list = k .list;
+      second = k .second;
+      spot = k .spot;
     }
 
 -- "list length plus, with Int Data, length*L, or nothing if the list length is 0"
