@@ -1,4 +1,0 @@
-pub mod Acts
-pub mod Allowed
-pub mod Sources
-pub mod Checks
