@@ -60,6 +60,12 @@ module _ {P A D : Type 0} (stop : ℕ → P → A → D) where
   passed (rule n w true a ∷ rs) d e never h = absurd (never n w a h)
   passed (rule n w false a ∷ rs) d e never h = let r = passed rs d e never h in ((refl, r .0), r .1)
 
+  -- what holds of every stop, and of d where no rule applies, holds of the decision
+  pub first-cases : (Q : D → Type 0) (rs : List (Rule P A)) (d : D) → ((n : ℕ) (w : P) (a : A) → Q (stop n w a)) → (AllPass rs → Q d) → Q (first rs d)
+  first-cases Q [] d h k = k tt
+  first-cases Q (rule n w true a ∷ rs) d h k = h n w a
+  first-cases Q (rule n w false a ∷ rs) d h k = first-cases Q rs d h (λ p. k (refl, p))
+
 -- of rules 1 to 3 the last two apply, and 2 decides
 second : first (λ (n : ℕ) (w a : Bool). n) (rule 1 true false true ∷ rule 2 true true true ∷ rule 3 true true true ∷ []) 0 ≡ 2
 second = refl

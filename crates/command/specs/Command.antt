@@ -1,0 +1,189 @@
+-- 01, "Commands": what the bytes of a CDB and of a parameter list say. Nothing is refused here. Assumes nothing.
+use Prim.Native.Nat.{ℕ, _+_, _-_, _*_, _/_, _%_, _<_}
+use mathlib.Core.List.{List, [], _∷_}
+use mathlib.Core.Bool.{cond}
+use mathlib.Core.Path.{_≡_, refl}
+use lib.ListN.{getD}
+use lib.Dec.{leb, eqb}
+use Rattle.octets.specs.Part.{part}
+use Rattle.octets.specs.Number.{num, be}
+use Rattle.command.specs.declared.Op.{Op}
+use Rattle.command.specs.declared.Op.the-variants.{XdWrite, XpWrite, XdRead, Rebuild, Regenerate, Read, Write, Unknown}
+use Rattle.command.specs.declared.Command.{Command}
+use Rattle.command.specs.declared.Source.{Source}
+
+-- "Code | Command"
+unfoldable pub opOf : ℕ → Op
+opOf code =
+    cond (eqb code 0xC0) XdWrite
+    (cond (eqb code 0xC1) XpWrite
+    (cond (eqb code 0xC2) XdRead
+    (cond (eqb code 0xC3) Rebuild
+    (cond (eqb code 0xC4) Regenerate
+    (cond (eqb code 0x28) Read
+    (cond (eqb code 0x2A) Write
+    Unknown))))))
+
+-- "Length"
+abbrev pub sizeOf : Op → ℕ
+sizeOf XdWrite = 16
+sizeOf XpWrite = 10
+sizeOf XdRead = 10
+sizeOf Rebuild = 10
+sizeOf Regenerate = 10
+sizeOf Read = 10
+sizeOf Write = 10
+sizeOf Unknown = 0
+
+-- "XDWRITE byte 1: bit 6 Mirror, 5 NDisc, 4 DPO, 3 FUA, 2-1 Sec Ctl. REBUILD and REGENERATE byte 1: bit 2 Int Data, 1-0 Sec Ctl. XPWRITE,
+-- READ and WRITE: bit 4 DPO, 3 FUA. All other bits of byte 1 .. must be zero.": those others
+abbrev pub zeroBits : Op → ℕ
+zeroBits XdWrite = 0x81
+zeroBits XpWrite = 0xE7
+zeroBits XdRead = 0xFF
+zeroBits Rebuild = 0xF8
+zeroBits Regenerate = 0xF8
+zeroBits Read = 0xE7
+zeroBits Write = 0xE7
+zeroBits Unknown = 0
+
+-- "block 2-5, length 6-7, secondary address 8-10, secondary block 11-14"
+unfoldable pub sixteenOf : Op → List ℕ → Command
+sixteenOf o c =
+    record {
+      op = o;
+      flags = getD c 1 0;
+      six = 0;
+      control = getD c 15 0;
+      block = record { 0 = be 4 c 2 };
+      count = be 2 c 6;
+      list = 0;
+      second = record { 0 = be 3 c 8 };
+      spot = record { 0 = be 4 c 11 };
+    }
+
+-- "block 2-5, length 7-8"
+unfoldable pub tenOf : Op → List ℕ → Command
+tenOf o c =
+    record {
+      op = o;
+      flags = getD c 1 0;
+      six = getD c 6 0;
+      control = getD c 9 0;
+      block = record { 0 = be 4 c 2 };
+      count = be 2 c 7;
+      list = 0;
+      second = record { 0 = 0 };
+      spot = record { 0 = 0 };
+    }
+
+-- "length 2-5, list length 7-8"
+unfoldable pub listedOf : Op → List ℕ → Command
+listedOf o c =
+    record {
+      op = o;
+      flags = getD c 1 0;
+      six = getD c 6 0;
+      control = getD c 9 0;
+      block = record { 0 = 0 };
+      count = be 4 c 2;
+      list = be 2 c 7;
+      second = record { 0 = 0 };
+      spot = record { 0 = 0 };
+    }
+
+-- "Fields"
+abbrev pub commandOf : Op → List ℕ → Command
+commandOf XdWrite c = sixteenOf XdWrite c
+commandOf XpWrite c = tenOf XpWrite c
+commandOf XdRead c = tenOf XdRead c
+commandOf Rebuild c = listedOf Rebuild c
+commandOf Regenerate c = listedOf Regenerate c
+commandOf Read c = tenOf Read c
+commandOf Write c = tenOf Write c
+commandOf Unknown c = tenOf Unknown c
+
+-- XDWRITE: "bit 6 Mirror, 5 NDisc, .., 2-1 Sec Ctl"
+abbrev pub mirrorOf : Command → ℕ
+mirrorOf k = k .flags / 64 % 2
+
+abbrev pub ndiscOf : Command → ℕ
+ndiscOf k = k .flags / 32 % 2
+
+abbrev pub secOf : Command → ℕ
+secOf k = k .flags / 2 % 4
+
+-- REBUILD and REGENERATE: "bit 2 Int Data, 1-0 Sec Ctl"
+abbrev pub intOf : Command → ℕ
+intOf k = k .flags / 4 % 2
+
+abbrev pub listSecOf : Command → ℕ
+listSecOf k = k .flags % 4
+
+-- each field fits its bytes
+pub record Fits (k : Command) : Type 0 where
+  pub flags-small : k .flags < 256
+  pub six-small : k .six < 256
+  pub control-small : k .control < 256
+  pub block-small : k .block .0 < 4294967296
+  pub count-small : k .count < 4294967296
+  pub list-small : k .list < 65536
+  pub second-small : k .second .0 < 16777216
+  pub spot-small : k .spot .0 < 4294967296
+
+-- "List: .. 4-7 own block": the command at the block that the data-out bytes s name
+unfoldable pub ownOf : Command → List ℕ → Command
+ownOf k s =
+    record {
+      op = k .op;
+      flags = k .flags;
+      six = k .six;
+      control = k .control;
+      block = record { 0 = be 4 s 4 };
+      count = k .count;
+      list = k .list;
+      second = k .second;
+      spot = k .spot;
+    }
+
+-- "then 8 bytes per source: address, block"
+unfoldable pub sourceOf : List ℕ → ℕ → Source
+sourceOf s i = record { address = record { 0 = be 4 s (8 + 8 * i) }; block = record { 0 = be 4 s (8 + 8 * i + 4) } }
+
+-- "length FFFFFFFFh means to the last block": n blocks from block b on, of a drive of B; where no block is left the length stays
+abbrev pub resolvedCount : ℕ → ℕ → ℕ → ℕ
+resolvedCount n b B = cond (eqb n 0xFFFFFFFF) (cond (leb B b) n (B - b)) n
+
+unfoldable pub resolvedOf : Command → ℕ → Command
+resolvedOf k B =
+    record {
+      op = k .op;
+      flags = k .flags;
+      six = k .six;
+      control = k .control;
+      block = k .block;
+      count = resolvedCount (k .count) (k .block .0) B;
+      list = k .list;
+      second = k .second;
+      spot = k .spot;
+    }
+
+-- "list length plus, with Int Data, length*L, or nothing if the list length is 0"
+unfoldable pub listBytes : Command → ℕ → ℕ
+listBytes k L = cond (eqb (k .list) 0) 0 (cond (eqb (intOf k) 0) (k .list) (k .list + k .count * L))
+
+-- ---- three of them
+
+-- XDWRITE's byte 6 is length
+upper : commandOf XdWrite (0xC0 ∷ 6 ∷ 0 ∷ 0 ∷ 0 ∷ 0 ∷ 1 ∷ 0 ∷ 0 ∷ 0 ∷ 0 ∷ 0 ∷ 0 ∷ 0 ∷ 0 ∷ 0 ∷ []) .count ≡ 256
+unfolding sixteenOf part num
+upper = refl
+
+-- REBUILD of a block, by a list of two sources
+two : commandOf Rebuild (0xC3 ∷ 0 ∷ 0 ∷ 0 ∷ 0 ∷ 1 ∷ 0 ∷ 0 ∷ 0x18 ∷ 0 ∷ []) .list ≡ 24
+unfolding listedOf part num
+two = refl
+
+-- of two blocks, none is left from block 2 on
+none : resolvedCount 0xFFFFFFFF 2 2 ≡ 0xFFFFFFFF
+none = refl

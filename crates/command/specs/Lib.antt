@@ -1,0 +1,4 @@
+pub mod Command
+pub mod Flags
+pub mod Length
+pub mod Lossless

@@ -1,0 +1,123 @@
+-- What a command that passed every check does to the image, and what it hands to the receive room (01, "Commands"). Every operand is
+-- read from the image before the command; stores are done in the order in which they stand. Assumes nothing.
+use Prim.Native.Nat.{ℕ, zero, suc, _+_, _*_}
+use mathlib.Core.List.{List, [], _∷_, _++_}
+use mathlib.Core.Bool.{cond}
+use lib.Dec.{eqb}
+use lib.ListN.{length}
+use Rattle.octets.specs.Part.{part}
+use Rattle.octets.specs.Put.{put}
+use Rattle.octets.specs.Xor.{_⊻_}
+use Rattle.octets.specs.Operands.{xorAll}
+use Rattle.rules.specs.declared.Found.{Found}
+use Rattle.rules.specs.declared.Found.the-variants.{At, Nothing}
+use Rattle.geometry.specs.declared.Geometry.{Geometry}
+use Rattle.geometry.specs.Header.{slotAt, dataAt, place}
+use Rattle.drives.specs.Table.{driveOf}
+use Rattle.slots.specs.Record.{bytesOf}
+use Rattle.slots.specs.Slots.{usedCount}
+use Rattle.slots.specs.Change.{entry, released}
+use Rattle.command.specs.Command.{sourceOf}
+use Rattle.meaning.specs.declared.Span.{Span}
+use Rattle.meaning.specs.declared.Act.{Act}
+use Rattle.meaning.specs.declared.Act.the-variants.{Read, Write, XpWrite, XdRead, Couple, Retain, Rebuild, Regenerate}
+
+-- ---- stores
+
+-- bytes written over an image at a place
+pub record Store : Type 0 where
+  pub at : ℕ
+  pub bytes : List ℕ
+
+abbrev pub store : ℕ → List ℕ → Store
+store at bytes = record { at = at; bytes = bytes }
+
+-- one after the other
+abbrev pub stored : List ℕ → List Store → List ℕ
+stored s [] = s
+stored s (w ∷ ws) = stored (put s (w .at) (w .bytes)) ws
+
+-- ---- blocks
+
+abbrev pub spanAt : Geometry → Span → ℕ
+spanAt g x = place g (x .drive) (x .block .0)
+
+-- the bytes of a span
+abbrev pub blocksOf : List ℕ → Geometry → Span → List ℕ
+blocksOf s g x = part s (spanAt g x) (x .count * g .l)
+
+-- ---- XDWRITE
+
+-- "result = data XOR old blocks, or the data itself with Mirror"
+abbrev pub resultOf : List ℕ → Geometry → Span → ℕ → List ℕ → List ℕ
+resultOf s g x mirror sent = cond (eqb mirror 0) (sent ⊻ blocksOf s g x) sent
+
+-- "Sec Ctl 00 or 10: the result goes to the secondary at its block, XORed into it, or written plainly with Mirror."
+abbrev pub passedOn : List ℕ → Geometry → Span → Span → ℕ → List ℕ → List ℕ
+passedOn s g x y mirror sent = cond (eqb mirror 0) (blocksOf s g y ⊻ resultOf s g x mirror sent) (resultOf s g x mirror sent)
+
+-- "NDisc 0 writes the data"; then the secondary
+abbrev pub coupled : List ℕ → Geometry → Span → Span → ℕ → List ℕ → List Store
+coupled s g x y mirror sent = store (spanAt g x) sent ∷ store (spanAt g y) (passedOn s g x y mirror sent) ∷ []
+
+-- a result in slot i: its bytes, then its record, as the newest
+abbrev pub keeping : List ℕ → Geometry → ℕ → ℕ → Span → List ℕ → List Store
+keeping s g i kind x bytes =
+    store (dataAt g i) bytes ∷ store (slotAt g i) (bytesOf (entry (usedCount s g + 1) kind (x .drive) (x .block .0) (x .count))) ∷ []
+
+-- "Sec Ctl 11: the result is retained", as kind 1
+abbrev pub written : Geometry → Span → ℕ → List ℕ → List Store
+written g x ndisc sent = cond (eqb ndisc 0) (store (spanAt g x) sent ∷ []) []
+
+-- ---- REBUILD and REGENERATE
+
+abbrev pub index : Found → ℕ
+index (At i) = i
+index Nothing = 0
+
+-- the blocks that source entry i names
+abbrev pub sourceBlocks : List ℕ → Geometry → List ℕ → ℕ → ℕ → List ℕ
+sourceBlocks s g sent count i =
+    part s (place g (index (driveOf s g (sourceOf sent i .address .0))) (sourceOf sent i .block .0)) (count * g .l)
+
+-- "The list is read from its first entry on": the entries left, from entry i on
+unfoldable pub sourcesFrom : List ℕ → Geometry → List ℕ → ℕ → ℕ → ℕ → List (List ℕ)
+sourcesFrom s g sent count i zero = []
+sourcesFrom s g sent count i (suc left) = sourceBlocks s g sent count i ∷ sourcesFrom s g sent count (i + 1) left
+
+-- "the intermediate data is the part of the data-out bytes that starts right after the list; it is one more operand"
+abbrev pub intData : Geometry → List ℕ → ℕ → ℕ → ℕ → List (List ℕ)
+intData g sent count n int = cond (eqb int 0) [] (part sent (8 + 8 * n) (count * g .l) ∷ [])
+
+-- the XOR of the n sources and the intermediate data
+unfoldable pub gathered : List ℕ → Geometry → List ℕ → ℕ → ℕ → ℕ → List ℕ
+gathered s g sent count n int = xorAll (sourcesFrom s g sent count 0 n ++ intData g sent count n int)
+
+-- ---- every command
+
+-- the stores of a command, in order; XDREAD's are those of a result that goes
+abbrev pub leaves : List ℕ → Geometry → List ℕ → Act → List ℕ
+leaves s g sent (Read x) = s
+leaves s g sent (Write x) = stored s (store (spanAt g x) sent ∷ [])
+-- "XPWRITE: medium becomes old XOR data."
+leaves s g sent (XpWrite x) = stored s (store (spanAt g x) (blocksOf s g x ⊻ sent) ∷ [])
+-- "it is no longer retained"
+leaves s g sent (XdRead x i) = released s g i
+leaves s g sent (Couple x y mirror) = stored s (coupled s g x y mirror sent)
+leaves s g sent (Retain x i mirror ndisc) = stored s (written g x ndisc sent ++ keeping s g i 1 x (resultOf s g x mirror sent))
+-- "REBUILD writes the XOR to the target"
+leaves s g sent (Rebuild x n int) = stored s (store (spanAt g x) (gathered s g sent (x .count) n int) ∷ [])
+-- "REGENERATE adds the target's own blocks and retains the XOR."
+leaves s g sent (Regenerate x n int i) = stored s (keeping s g i 2 x (blocksOf s g x ⊻ gathered s g sent (x .count) n int))
+
+-- what goes to the receive room's front
+abbrev pub hands : List ℕ → Geometry → Act → List ℕ
+hands s g (Read x) = blocksOf s g x
+hands s g (Write x) = []
+hands s g (XpWrite x) = []
+-- "Its bytes go to the receive room's front"
+hands s g (XdRead x i) = part s (dataAt g i) (x .count * g .l)
+hands s g (Couple x y mirror) = []
+hands s g (Retain x i mirror ndisc) = []
+hands s g (Rebuild x n int) = []
+hands s g (Regenerate x n int i) = []

@@ -1,0 +1,71 @@
+-- What a decision to go grants the code that acts, by act. Assumes nothing.
+use Prim.Native.Nat.{ℕ, _+_, _*_, _≤_, _<_}
+use mathlib.Core.Path.{_≡_}
+use mathlib.Core.Bool.{true, false, cond}
+use mathlib.Core.List.{List}
+use lib.Dec.{eqb}
+use lib.ListN.{length}
+use Rattle.rules.specs.declared.Found.the-variants.{At}
+use Rattle.geometry.specs.declared.Geometry.{Geometry}
+use Rattle.geometry.specs.Places.{Range}
+use Rattle.drives.specs.Table.{driveOf, failed}
+use Rattle.slots.specs.Record.{slotOf, isUsed}
+use Rattle.slots.specs.Find.{emptySlot, newestOf}
+use Rattle.command.specs.Command.{sourceOf}
+use Rattle.meaning.specs.declared.Span.{Span}
+use Rattle.meaning.specs.declared.Act.{Act}
+use Rattle.meaning.specs.declared.Act.the-variants.{Read, Write, XpWrite, XdRead, Couple, Retain, Rebuild, Regenerate}
+
+-- blocks of a present drive, one at least
+pub record Blocks (s : List ℕ) (g : Geometry) (x : Span) : Type 0 where
+  pub range : Range g (x .drive) (x .block .0) (x .count)
+  pub present : failed s g (x .drive) ≡ false
+  pub some : 1 ≤ x .count
+
+-- the data-out bytes are exactly the blocks
+abbrev pub Filled : Geometry → Span → List ℕ → Type 0
+Filled g x sent = length sent ≡ x .count * g .l
+
+-- the receive room holds the blocks
+abbrev pub Roomy : Geometry → Span → ℕ → Type 0
+Roomy g x room = x .count * g .l ≤ room
+
+abbrev pub Limited : Geometry → Span → Type 0
+Limited g x = x .count ≤ g .m
+
+-- slot i answers
+pub record Held (s : List ℕ) (g : Geometry) (x : Span) (i : ℕ) : Type 0 where
+  pub answers : newestOf s g (x .drive) (x .block .0) ≡ At i
+  pub slot-in : i < g .s
+  pub same-len : slotOf s g i .len ≡ x .count
+  pub limited : x .count ≤ g .m
+
+-- slot i takes the result
+pub record Free (s : List ℕ) (g : Geometry) (i : ℕ) : Type 0 where
+  pub takes : emptySlot s g ≡ At i
+  pub slot-in : i < g .s
+  pub unused : isUsed (slotOf s g i) ≡ false
+
+-- entry i names blocks of another drive
+pub record Entry (s : List ℕ) (g : Geometry) (x : Span) (sent : List ℕ) (i : ℕ) : Type 0 where
+  pub drive : ℕ
+  pub found : driveOf s g (sourceOf sent i .address .0) ≡ At drive
+  pub range : Range g drive (sourceOf sent i .block .0) (x .count)
+  pub present : failed s g drive ≡ false
+  pub other : drive ≡ x .drive → ⊥
+
+pub record Sourced (s : List ℕ) (g : Geometry) (x : Span) (n int : ℕ) (sent : List ℕ) : Type 0 where
+  pub some-source : 1 ≤ n
+  pub few : n < 256
+  pub exact : length sent ≡ 8 + 8 * n + cond (eqb int 0) 0 (x .count * g .l)
+  pub each : (i : ℕ) → i < n → Entry s g x sent i
+
+abbrev pub Allowed : List ℕ → Geometry → List ℕ → ℕ → Act → Type 0
+Allowed s g sent room (Read x) = Blocks s g x × Roomy g x room
+Allowed s g sent room (Write x) = Blocks s g x × Filled g x sent
+Allowed s g sent room (XpWrite x) = Blocks s g x × Filled g x sent
+Allowed s g sent room (XdRead x i) = Held s g x i × Roomy g x room
+Allowed s g sent room (Couple x y mirror) = Blocks s g x × Blocks s g y × (x .count ≡ y .count) × (x .drive ≡ y .drive → ⊥) × Filled g x sent
+Allowed s g sent room (Retain x i mirror ndisc) = Blocks s g x × Filled g x sent × Limited g x × Free s g i
+Allowed s g sent room (Rebuild x n int) = Blocks s g x × Sourced s g x n int sent
+Allowed s g sent room (Regenerate x n int i) = Blocks s g x × Sourced s g x n int sent × Limited g x × Free s g i

@@ -1,0 +1,119 @@
+-- 01, "Bench shelf": C1 to C11 as one table. "Each case starts there." A room of 8 bytes and drive 1 where 01 names none. Assumes nothing.
+use Prim.Native.Nat.{ℕ}
+use mathlib.Core.List.{List, [], _∷_, _++_}
+use lib.ListN.{replicate}
+use Rattle.image.specs.Bench.{bench}
+use Rattle.meaning.specs.Calls.{Call, command}
+use Rattle.meaning.specs.Row.{Seen, Row, quiet, refused}
+
+abbrev pub four : ℕ → ℕ → ℕ → ℕ → List ℕ
+four a b c d = a ∷ b ∷ c ∷ d ∷ []
+
+abbrev pub zeros : List ℕ
+zeros = four 0 0 0 0
+
+-- the bench shelf with this state of drive 3, this slot and these blocks 0
+abbrev pub shelfOf : ℕ → List ℕ → List ℕ → List ℕ → List ℕ → List ℕ
+shelfOf state slot a b c =
+    four 0 0 0 3 ++ four 0 0 0 2 ++ four 0 0 0 4 ++ four 0 0 0 1 ++ four 0 0 0 2 ++ four 0 0 0 32 ++ four 0 0 0 44 ++ four 0 0 0 68
+    ++ four 0 0 0 1 ++ four 0 0 0 2 ++ four state 0 0 3 ++ slot ++ a ++ zeros ++ b ++ zeros ++ c ++ zeros
+
+-- blocks 0 of drives 1, 2 and 3
+abbrev pub one : List ℕ
+one = four 0x0A 0x0B 0x0C 0x0D
+
+abbrev pub two : List ℕ
+two = four 0x01 0x02 0x03 0x04
+
+abbrev pub three : List ℕ
+three = four 0x0B 0x09 0x0F 0x09
+
+-- the data of C1, the result, and drive 3's block with it
+abbrev pub fresh : List ℕ
+fresh = four 0xFF 0x00 0xFF 0x00
+
+abbrev pub result : List ℕ
+result = four 0xF5 0x0B 0xF3 0x0D
+
+abbrev pub parity : List ℕ
+parity = four 0xFE 0x02 0xFC 0x04
+
+-- the slot: empty; with a block of a drive retained at block 0, as the newest; with that record zeroed and its data left
+abbrev pub vacant : List ℕ
+vacant = replicate 24 0
+
+abbrev pub holding : ℕ → ℕ → List ℕ → List ℕ
+holding kind drive bytes = 0 ∷ 0 ∷ 0 ∷ 1 ∷ kind ∷ drive ∷ 0 ∷ 1 ∷ replicate 8 0 ++ bytes ++ zeros
+
+abbrev pub left : List ℕ → List ℕ
+left bytes = replicate 16 0 ++ bytes ++ zeros
+
+-- C0 with byte 1 given, block 0, length 1, secondary 3 at block 0; a 10-byte command at a block; C3 and C4 of length 1
+abbrev pub xdwrite : ℕ → List ℕ
+xdwrite flags = 0xC0 ∷ flags ∷ 0 ∷ 0 ∷ 0 ∷ 0 ∷ 0 ∷ 1 ∷ 0 ∷ 0 ∷ 3 ∷ replicate 5 0
+
+abbrev pub ten : ℕ → ℕ → ℕ → List ℕ
+ten code block n = code ∷ 0 ∷ 0 ∷ 0 ∷ 0 ∷ block ∷ 0 ∷ 0 ∷ n ∷ 0 ∷ []
+
+abbrev pub listed : ℕ → ℕ → List ℕ
+listed code n = code ∷ 0 ∷ 0 ∷ 0 ∷ 0 ∷ 1 ∷ 0 ∷ 0 ∷ n ∷ 0 ∷ []
+
+-- a list of n sources with own block 0, and a source at block 0
+abbrev pub head : ℕ → List ℕ
+head n = n ∷ 1 ∷ replicate 6 0
+
+abbrev pub source : ℕ → List ℕ
+source address = 0 ∷ 0 ∷ 0 ∷ address ∷ zeros
+
+abbrev pub room : List ℕ
+room = replicate 8 0xAA
+
+abbrev pub row : List ℕ → List Call → ℕ → List ℕ → List ℕ → Seen → Row
+row start before target cdb sent want = record { start = start; before = before; target = target; cdb = cdb; sent = sent; room = room; want = want }
+
+-- "C2 Same, byte 1 06h", and what it leaves
+abbrev pub c2 : Call
+c2 = command 1 (xdwrite 0x06) fresh room
+
+abbrev pub afterC2 : List ℕ
+afterC2 = shelfOf 0 (holding 1 0 result) fresh two three
+
+-- C9: "nothing written; sense 70 00 0B 00 00 00 00 1D 00 12 .. 04 00 00 00 00 00."
+abbrev pub failedSecond : List ℕ → Seen
+failedSecond image =
+    record {
+      number = 2;
+      count = 0;
+      sense = 0x70 ∷ 0 ∷ 0x0B ∷ 0 ∷ 0 ∷ 0 ∷ 0 ∷ 0x1D ∷ 0 ∷ 0x12 ∷ 0 ∷ 0 ∷ 0 ∷ 0 ∷ 0 ∷ 0 ∷ 0 ∷ 0 ∷ 0x02 ∷ 0x70 ∷ 0 ∷ 0x02 ∷ 0 ∷ 0 ∷ 0 ∷ 0 ∷ 0x0A ∷ 0 ∷ 0 ∷ 0 ∷ 0 ∷ 0x04 ∷ 0 ∷ 0 ∷ 0 ∷ 0 ∷ 0 ∷ [];
+      len = 37;
+      image = image;
+      room = room;
+    }
+
+abbrev pub table : List Row
+table =
+    -- C1: "GOOD; drive 1 FF00FF00, drive 3 FE02FC04."
+    row bench [] 1 (xdwrite 0x00) fresh (quiet 0 0 (shelfOf 0 vacant fresh two parity) room)
+    -- C2: "drive 3 unchanged, F50BF30D retained."
+    ∷ row bench [] 1 (xdwrite 0x06) fresh (quiet 0 0 afterC2 room)
+    -- C3: "C2, then XDREAD block 0 length 1: F50BF30D; XPWRITE of it to 3 gives FE02FC04."
+    ∷ row bench (c2 ∷ []) 1 (ten 0xC2 0 1) [] (quiet 0 4 (shelfOf 0 (left result) fresh two three) (result ++ replicate 4 0xAA))
+    ∷ row bench (c2 ∷ command 1 (ten 0xC2 0 1) [] room ∷ []) 3 (ten 0xC1 0 1) result (quiet 0 0 (shelfOf 0 (left result) fresh two parity) room)
+    -- C4: "C2 twice: the second is BUSY."
+    ∷ row bench (c2 ∷ []) 1 (xdwrite 0x06) fresh (quiet 8 0 afterC2 room)
+    -- C5: "C2, XDREAD length 2: 05h/24h/00h, still retained."
+    ∷ row bench (c2 ∷ []) 1 (ten 0xC2 0 2) [] (refused 0x05 0x24 afterC2 room)
+    -- C6: "C1 with byte 1 20h: 05h/24h/00h."
+    ∷ row bench [] 1 (xdwrite 0x20) fresh (refused 0x05 0x24 bench room)
+    -- C7: "Drive 1 block 0 zeroed, .., sources 2 and 3 at 0: drive 1 block 0 is 0A0B0C0D."
+    ∷ row (shelfOf 0 vacant zeros two three) [] 1 (listed 0xC3 0x18) (head 2 ++ source 2 ++ source 3) (quiet 0 0 bench room)
+    -- C8: "To 2: REGENERATE block 0, source 3: 0A0B0C0D retained."
+    ∷ row bench [] 2 (listed 0xC4 0x10) (head 1 ++ source 3) (quiet 0 0 (shelfOf 0 (holding 2 1 one) one two three) room)
+    -- C9: "C1 with drive 3 failed"
+    ∷ row (shelfOf 1 vacant one two three) [] 1 (xdwrite 0x00) fresh (failedSecond (shelfOf 1 vacant one two three))
+    -- C10: "READ block 1 length 1 GOOD; length 2: 05h/21h/00h."
+    ∷ row bench [] 1 (ten 0x28 1 1) [] (quiet 0 4 bench (zeros ++ replicate 4 0xAA))
+    ∷ row bench [] 1 (ten 0x28 1 2) [] (refused 0x05 0x21 bench room)
+    -- C11: "XPWRITE block 9 length 0: GOOD."
+    ∷ row bench [] 1 (ten 0xC1 9 0) [] (quiet 0 0 bench room)
+    ∷ []

@@ -1,0 +1,294 @@
+-- 01, "Answers and the order of checks": "The first that applies decides". Within one check the rules stand by the byte they look at.
+-- m is the image, g its geometry, a the target's address, t its index, o the operation, c the CDB, k the command, s the data-out
+-- bytes, r the receive room's length. A rule is: 01's check, where it is seen, whether it applies, the answer. Assumes nothing.
+use Prim.Native.Nat.{ℕ, _+_, _*_}
+use mathlib.Core.Bool.{Bool, true, false, not, _&&_, cond}
+use mathlib.Core.List.{List, [], _∷_, _++_}
+use lib.Bits.{bitAnd}
+use lib.Dec.{ltb, eqb}
+use lib.ListN.{length, getD}
+use Rattle.octets.specs.Number.{be}
+use Rattle.rules.specs.declared.Found.{Found}
+use Rattle.rules.specs.declared.Found.the-variants.{At, Nothing}
+use Rattle.rules.specs.Rule.{Rule, rule, first}
+use Rattle.geometry.specs.declared.Geometry.{Geometry}
+use Rattle.geometry.specs.Header.{geometryOf}
+use Rattle.drives.specs.Table.{driveOf, failed}
+use Rattle.slots.specs.Record.{slotOf}
+use Rattle.slots.specs.Find.{emptySlot, newestOf}
+use Rattle.image.specs.Valid.{validImage}
+use Rattle.sense.specs.declared.Answer.{Answer}
+use Rattle.sense.specs.declared.Answer.the-variants.{Good, Busy, BadImage, NoTarget, BadCdb, WrongCount, ShortRoom, BadState, UnknownCode, TargetFailed, BadField, BadListLength, BadList, BadRange, NestedAddress, NestedFailed, NestedRange}
+use Rattle.command.specs.declared.Op.{Op}
+use Rattle.command.specs.declared.Op.the-variants.{XdWrite, XpWrite, XdRead, Rebuild, Regenerate, Read, Write, Unknown}
+use Rattle.command.specs.declared.Command.{Command}
+use Rattle.command.specs.Command.{opOf, sizeOf, zeroBits, commandOf, mirrorOf, ndiscOf, secOf, intOf, listSecOf, ownOf, resolvedOf, listBytes}
+use Rattle.meaning.specs.declared.Span.{Span}
+use Rattle.meaning.specs.declared.Act.{Act}
+use Rattle.meaning.specs.declared.Act.the-variants.{Read as ToRead, Write as ToWrite, XpWrite as ToXpWrite, XdRead as ToXdRead, Couple, Retain, Rebuild as ToRebuild, Regenerate as ToRegenerate}
+use Rattle.meaning.specs.declared.Seen.{Seen}
+use Rattle.meaning.specs.declared.Seen.the-variants.{Dash, Cdb, List as InList, Drive, Entry, EntryDrive}
+use Rattle.meaning.specs.declared.Fault.{Fault}
+use Rattle.meaning.specs.declared.Fault.the-variants.{Clear, Absent, Failed, Beyond}
+use Rattle.meaning.specs.declared.Decision.{Decision}
+use Rattle.meaning.specs.declared.Decision.the-variants.{Stop, Go}
+use Rattle.meaning.specs.Acts.{index}
+use Rattle.meaning.specs.Sources.{isAt, ownEntry, firstBad}
+
+abbrev pub Check : Type 0
+Check = Rule Seen Answer
+
+abbrev pub isNothing : Found → Bool
+isNothing (At i) = false
+isNothing Nothing = true
+
+abbrev pub isUnknown : Op → Bool
+isUnknown o = eqb (sizeOf o) 0
+
+-- 1. "Calls 1, 2, 3 in that order.": "1 image not valid; 2 no such target"
+abbrev pub calls : List ℕ → ℕ → List Check
+calls m a =
+    rule 1 Dash (not (validImage m)) BadImage
+    ∷ rule 1 Dash (isNothing (driveOf m (geometryOf m) a)) NoTarget
+    ∷ []
+
+-- "3 CDB empty, or a known code with another length"
+abbrev pub cdbCalls : Op → List ℕ → List Check
+cdbCalls o c =
+    rule 1 Dash (eqb (length c) 0) BadCdb
+    ∷ rule 1 Dash (not (isUnknown o) && not (eqb (length c) (sizeOf o))) BadCdb
+    ∷ []
+
+-- 2. "Unknown code: 05h/20h/00h." 3. "Target failed: 02h/04h/00h."
+abbrev pub known : List ℕ → Geometry → ℕ → Op → List Check
+known m g t o =
+    rule 2 (Cdb 0) (isUnknown o) UnknownCode
+    ∷ rule 3 (Drive t) (failed m g t) TargetFailed
+    ∷ []
+
+-- 4. "05h/24h/00h: a bit that must be zero", in byte 1, in byte 6 of the 10-byte commands, in the last byte
+abbrev pub zeroFlags : Op → Command → List Check
+zeroFlags o k = rule 4 (Cdb 1) (not (eqb (bitAnd (k .flags) (zeroBits o)) 0)) BadField ∷ []
+
+abbrev pub zeroSix : Command → List Check
+zeroSix k = rule 4 (Cdb 6) (not (eqb (k .six) 0)) BadField ∷ []
+
+abbrev pub zeroControl : ℕ → Command → List Check
+zeroControl at k = rule 4 (Cdb at) (not (eqb (k .control) 0)) BadField ∷ []
+
+-- "XDWRITE, XPWRITE or REGENERATE length above M"
+abbrev pub aboveM : ℕ → Geometry → Command → List Check
+aboveM at g k = rule 4 (Cdb at) (ltb (g .m) (k .count)) BadField ∷ []
+
+-- "Sec Ctl 01; Sec Ctl 11 in REBUILD or REGENERATE"
+abbrev pub listFlags : Op → Command → List Check
+listFlags o k =
+    zeroFlags o k
+    ++ rule 4 (Cdb 1) (eqb (listSecOf k) 1) BadField
+    ∷ rule 4 (Cdb 1) (eqb (listSecOf k) 3) BadField
+    ∷ []
+
+-- "NDisc without 11; secondary address equal to the target's (Sec Ctl 00, 10)"; "REBUILD length FFFFFFFFh with Int Data"
+abbrev pub fields : Op → List ℕ → Geometry → ℕ → Command → List Check
+fields XdWrite m g t k =
+    zeroFlags XdWrite k
+    ++ rule 4 (Cdb 1) (eqb (secOf k) 1) BadField
+    ∷ rule 4 (Cdb 1) (not (eqb (secOf k) 3) && eqb (ndiscOf k) 1) BadField
+    ∷ aboveM 6 g k
+    ++ rule 4 (Cdb 8) (not (eqb (secOf k) 3) && isAt t (driveOf m g (k .second .0))) BadField
+    ∷ zeroControl 15 k
+fields XpWrite m g t k = zeroFlags XpWrite k ++ zeroSix k ++ aboveM 7 g k ++ zeroControl 9 k
+fields XdRead m g t k = zeroFlags XdRead k ++ zeroSix k ++ zeroControl 9 k
+fields Rebuild m g t k =
+    listFlags Rebuild k ++ rule 4 (Cdb 2) (not (eqb (intOf k) 0) && eqb (k .count) 0xFFFFFFFF) BadField ∷ zeroSix k ++ zeroControl 9 k
+fields Regenerate m g t k = listFlags Regenerate k ++ aboveM 2 g k ++ zeroSix k ++ zeroControl 9 k
+fields Read m g t k = zeroFlags Read k ++ zeroSix k ++ zeroControl 9 k
+fields Write m g t k = zeroFlags Write k ++ zeroSix k ++ zeroControl 9 k
+fields Unknown m g t k = []
+
+-- 5. "Call 4. XDWRITE, XPWRITE, WRITE send length*L; REBUILD and REGENERATE list length plus, with Int Data, length*L, or nothing if the
+-- list length is 0; READ and XDREAD nothing."
+abbrev pub sends : Op → Geometry → Command → ℕ
+sends XdWrite g k = k .count * g .l
+sends XpWrite g k = k .count * g .l
+sends XdRead g k = 0
+sends Rebuild g k = listBytes k (g .l)
+sends Regenerate g k = listBytes k (g .l)
+sends Read g k = 0
+sends Write g k = k .count * g .l
+sends Unknown g k = 0
+
+-- 6. "GOOD for zero length (READ, WRITE, XDWRITE, XPWRITE) or list length zero."
+abbrev pub idle : Op → Command → List Check
+idle XdWrite k = rule 6 (Cdb 6) (eqb (k .count) 0) Good ∷ []
+idle XpWrite k = rule 6 (Cdb 7) (eqb (k .count) 0) Good ∷ []
+idle XdRead k = []
+idle Rebuild k = rule 6 (Cdb 7) (eqb (k .list) 0) Good ∷ []
+idle Regenerate k = rule 6 (Cdb 7) (eqb (k .list) 0) Good ∷ []
+idle Read k = rule 6 (Cdb 7) (eqb (k .count) 0) Good ∷ []
+idle Write k = rule 6 (Cdb 7) (eqb (k .count) 0) Good ∷ []
+idle Unknown k = []
+
+-- 7. "List length not 8 + 8*sources, or below 8: 05h/1Ah/00h."
+abbrev pub listLength : Command → List ℕ → List Check
+listLength k s =
+    rule 7 (Cdb 7) (ltb (k .list) 8) BadListLength
+    ∷ rule 7 (Cdb 7) (not (eqb (k .list) (8 + 8 * getD s 0 0))) BadListLength
+    ∷ []
+
+-- "Then no sources, type not 01, bytes 2-3 not zero, or a source that is the target: 05h/26h/00h."
+abbrev pub listHead : List ℕ → Geometry → ℕ → List ℕ → List Check
+listHead m g t s =
+    rule 7 (InList 0) (eqb (getD s 0 0) 0) BadList
+    ∷ rule 7 (InList 1) (not (eqb (getD s 1 0) 1)) BadList
+    ∷ rule 7 (InList 2) (not (eqb (be 2 s 2) 0)) BadList
+    ∷ rule 7 (Entry (index (ownEntry m g s (getD s 0 0) t)) 0) (not (isNothing (ownEntry m g s (getD s 0 0) t))) BadList
+    ∷ []
+
+-- "Then GOOD for length 0."
+abbrev pub listRules : List ℕ → Geometry → ℕ → Command → List ℕ → List Check
+listRules m g t k s = listLength k s ++ listHead m g t s ++ rule 7 (Cdb 2) (eqb (k .count) 0) Good ∷ []
+
+abbrev pub lists : Op → List ℕ → Geometry → ℕ → Command → List ℕ → List Check
+lists XdWrite m g t k s = []
+lists XpWrite m g t k s = []
+lists XdRead m g t k s = []
+lists Rebuild m g t k s = listRules m g t k s
+lists Regenerate m g t k s = listRules m g t k s
+lists Read m g t k s = []
+lists Write m g t k s = []
+lists Unknown m g t k s = []
+
+-- "the step works on the command with that length resolved"
+abbrev pub resolved : Geometry → Command → List ℕ → Command
+resolved g k s = resolvedOf (ownOf k s) (g .b)
+
+-- 8. "Others: block + length above B, or REBUILD FFFFFFFFh with block at or above B: 05h/21h/00h." Such a length is not resolved, and is above B.
+abbrev pub inRange : Seen → Geometry → Command → List Check
+inRange w g k = rule 8 w (ltb (g .b) (k .block .0 + k .count)) BadRange ∷ []
+
+-- "XDREAD without a match or with another length: 05h/24h/00h."
+abbrev pub ranges : Op → List ℕ → Geometry → ℕ → Command → List ℕ → List Check
+ranges XdWrite m g t k s = inRange (Cdb 2) g k
+ranges XpWrite m g t k s = inRange (Cdb 2) g k
+ranges XdRead m g t k s =
+    rule 8 (Cdb 2) (isNothing (newestOf m g t (k .block .0))) BadField
+    ∷ rule 8 (Cdb 7) (not (eqb (slotOf m g (index (newestOf m g t (k .block .0))) .len) (k .count))) BadField
+    ∷ []
+ranges Rebuild m g t k s = inRange (InList 4) g (resolved g k s)
+ranges Regenerate m g t k s = inRange (InList 4) g (resolved g k s)
+ranges Read m g t k s = inRange (Cdb 2) g k
+ranges Write m g t k s = inRange (Cdb 2) g k
+ranges Unknown m g t k s = []
+
+-- 9. "Something to retain and no empty slot: BUSY."
+abbrev pub busy : Op → List ℕ → Geometry → Command → List Check
+busy XdWrite m g k = rule 9 Dash (eqb (secOf k) 3 && isNothing (emptySlot m g)) Busy ∷ []
+busy XpWrite m g k = []
+busy XdRead m g k = []
+busy Rebuild m g k = []
+busy Regenerate m g k = rule 9 Dash (isNothing (emptySlot m g)) Busy ∷ []
+busy Read m g k = []
+busy Write m g k = []
+busy Unknown m g k = []
+
+-- 10. "Nested: the secondary, or the first source entry in list order that fails decides; for one entry, address, then failed drive,
+-- then range."
+abbrev pub faultSeen : Fault → Seen
+faultSeen Clear = Dash
+faultSeen (Absent i) = Entry i 0
+faultSeen (Failed i k) = EntryDrive i k
+faultSeen (Beyond i) = Entry i 4
+
+abbrev pub faultAnswer : Fault → Answer
+faultAnswer Clear = Good
+faultAnswer (Absent i) = NestedAddress
+faultAnswer (Failed i k) = NestedFailed
+faultAnswer (Beyond i) = NestedRange
+
+abbrev pub isFault : Fault → Bool
+isFault Clear = false
+isFault (Absent i) = true
+isFault (Failed i k) = true
+isFault (Beyond i) = true
+
+abbrev pub sourceRules : Fault → List Check
+sourceRules f = rule 10 (faultSeen f) (isFault f) (faultAnswer f) ∷ []
+
+abbrev pub secondRules : List ℕ → Geometry → Command → Found → List Check
+secondRules m g k f =
+    rule 10 (Cdb 8) (not (eqb (secOf k) 3) && isNothing f) NestedAddress
+    ∷ rule 10 (Drive (index f)) (not (eqb (secOf k) 3) && failed m g (index f)) NestedFailed
+    ∷ rule 10 (Cdb 11) (not (eqb (secOf k) 3) && ltb (g .b) (k .spot .0 + k .count)) NestedRange
+    ∷ []
+
+abbrev pub nested : Op → List ℕ → Geometry → Command → List ℕ → List Check
+nested XdWrite m g k s = secondRules m g k (driveOf m g (k .second .0))
+nested XpWrite m g k s = []
+nested XdRead m g k s = []
+nested Rebuild m g k s = sourceRules (firstBad m g s (resolved g k s .count) 0 (getD s 0 0))
+nested Regenerate m g k s = sourceRules (firstBad m g s (resolved g k s .count) 0 (getD s 0 0))
+nested Read m g k s = []
+nested Write m g k s = []
+nested Unknown m g k s = []
+
+-- 11. "Call 5."
+abbrev pub roomRule : Geometry → Command → ℕ → List Check
+roomRule g k r = rule 11 Dash (ltb r (k .count * g .l)) ShortRoom ∷ []
+
+abbrev pub rooms : Op → Geometry → Command → ℕ → List Check
+rooms XdWrite g k r = []
+rooms XpWrite g k r = []
+rooms XdRead g k r = roomRule g k r
+rooms Rebuild g k r = []
+rooms Regenerate g k r = []
+rooms Read g k r = roomRule g k r
+rooms Write g k r = []
+rooms Unknown g k r = []
+
+-- what is done where no check applies, and the answer to it
+abbrev pub spanOf : ℕ → Command → Span
+spanOf t k = record { drive = t; block = k .block; count = k .count }
+
+abbrev pub secondOf : Found → Command → Span
+secondOf f k = record { drive = index f; block = k .spot; count = k .count }
+
+abbrev pub acts : Op → List ℕ → Geometry → ℕ → Command → List ℕ → Decision
+acts XdWrite m g t k s =
+    cond (eqb (secOf k) 3)
+    (Go (Retain (spanOf t k) (index (emptySlot m g)) (mirrorOf k) (ndiscOf k)) Good)
+    (Go (Couple (spanOf t k) (secondOf (driveOf m g (k .second .0)) k) (mirrorOf k)) Good)
+acts XpWrite m g t k s = Go (ToXpWrite (spanOf t k)) Good
+acts XdRead m g t k s = Go (ToXdRead (spanOf t k) (index (newestOf m g t (k .block .0)))) Good
+acts Rebuild m g t k s = Go (ToRebuild (spanOf t (resolved g k s)) (getD s 0 0) (intOf k)) Good
+acts Regenerate m g t k s = Go (ToRegenerate (spanOf t (resolved g k s)) (getD s 0 0) (intOf k) (index (emptySlot m g))) Good
+acts Read m g t k s = Go (ToRead (spanOf t k)) Good
+acts Write m g t k s = Go (ToWrite (spanOf t k)) Good
+acts Unknown m g t k s = Stop 2 (Cdb 0) UnknownCode
+
+-- checks 4 to 11
+abbrev pub commandChecks : Op → List ℕ → Geometry → ℕ → Command → List ℕ → ℕ → List Check
+commandChecks o m g t k s r =
+    fields o m g t k
+    ++ rule 5 Dash (not (eqb (length s) (sends o g k))) WrongCount
+    ∷ idle o k
+    ++ lists o m g t k s
+    ++ ranges o m g t k s
+    ++ busy o m g k
+    ++ nested o m g k s
+    ++ rooms o g k r
+
+-- all checks, in 01's order
+abbrev pub checksFor : Op → List ℕ → Geometry → ℕ → ℕ → List ℕ → List ℕ → ℕ → List Check
+checksFor o m g a t c s r = calls m a ++ cdbCalls o c ++ known m g t o ++ commandChecks o m g t (commandOf o c) s r
+
+abbrev pub checks : List ℕ → ℕ → List ℕ → List ℕ → ℕ → List Check
+checks m a c s r = checksFor (opOf (getD c 0 0)) m (geometryOf m) a (index (driveOf m (geometryOf m) a)) c s r
+
+abbrev pub carriedOut : List ℕ → ℕ → List ℕ → List ℕ → Decision
+carriedOut m a c s =
+    acts (opOf (getD c 0 0)) m (geometryOf m) (index (driveOf m (geometryOf m) a)) (commandOf (opOf (getD c 0 0)) c) s
+
+-- "The first that applies decides"
+unfoldable pub decideOf : List ℕ → ℕ → List ℕ → List ℕ → ℕ → Decision
+decideOf m a c s r = first Stop (checks m a c s r) (carriedOut m a c s)

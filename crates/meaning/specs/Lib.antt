@@ -1,0 +1,10 @@
+pub mod Acts
+pub mod Allowed
+pub mod Sources
+pub mod Checks
+pub mod Step
+pub mod Calls
+pub mod Row
+pub mod Cases
+pub mod Several
+pub mod Tables

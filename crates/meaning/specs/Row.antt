@@ -1,0 +1,53 @@
+-- A row of a table of examples: calls on an image, the last a command, and what it answers and leaves. Assumes nothing.
+use Prim.Native.Nat.{ℕ}
+use mathlib.Core.List.{List, [], _∷_, _++_, map}
+use lib.ListN.{replicate}
+use Rattle.sense.specs.Answers.{numberOf}
+use Rattle.meaning.specs.Step.{stepImage, stepRoom, stepOutcome}
+use Rattle.meaning.specs.Calls.{Call, afterCalls}
+
+-- 01's number, the byte count, the 37 sense bytes, the sense's length, the image and the room afterwards
+pub record Seen : Type 0 where
+  pub number : ℕ
+  pub count : ℕ
+  pub sense : List ℕ
+  pub len : ℕ
+  pub image : List ℕ
+  pub room : List ℕ
+
+pub record Row : Type 0 where
+  pub start : List ℕ
+  pub before : List Call
+  pub target : ℕ
+  pub cdb : List ℕ
+  pub sent : List ℕ
+  pub room : List ℕ
+  pub want : Seen
+
+abbrev pub got : Row → Seen
+got w =
+    let m = afterCalls (w .before) (w .start) in
+    let o = stepOutcome m (w .target) (w .cdb) (w .sent) (w .room) in
+    record {
+      number = numberOf (o .answer);
+      count = o .count;
+      sense = o .sense .bytes;
+      len = o .sense .len;
+      image = stepImage m (w .target) (w .cdb) (w .sent) (w .room);
+      room = stepRoom m (w .target) (w .cdb) (w .sent) (w .room);
+    }
+
+-- no sense; a plain one, byte for byte
+abbrev pub quiet : ℕ → ℕ → List ℕ → List ℕ → Seen
+quiet number count image room = record { number = number; count = count; sense = replicate 37 0; len = 0; image = image; room = room }
+
+abbrev pub refused : ℕ → ℕ → List ℕ → List ℕ → Seen
+refused key code image room =
+    record {
+      number = 2;
+      count = 0;
+      sense = 0x70 ∷ 0 ∷ key ∷ 0 ∷ 0 ∷ 0 ∷ 0 ∷ 0x0A ∷ 0 ∷ 0 ∷ 0 ∷ 0 ∷ code ∷ replicate 24 0;
+      len = 18;
+      image = image;
+      room = room;
+    }

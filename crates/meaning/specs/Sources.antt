@@ -1,0 +1,42 @@
+-- The source entries of a parameter list, against the image (01, checks 7 and 10). Assumes nothing.
+use Prim.Native.Nat.{ℕ, zero, suc, _+_}
+use mathlib.Core.List.{List}
+use mathlib.Core.Bool.{Bool, false, cond}
+use lib.Dec.{ltb, eqb}
+use Rattle.rules.specs.declared.Found.{Found}
+use Rattle.rules.specs.declared.Found.the-variants.{At, Nothing}
+use Rattle.rules.specs.Least.{leastBelow}
+use Rattle.geometry.specs.declared.Geometry.{Geometry}
+use Rattle.drives.specs.Table.{driveOf, failed}
+use Rattle.command.specs.Command.{sourceOf}
+use Rattle.meaning.specs.declared.Fault.{Fault}
+use Rattle.meaning.specs.declared.Fault.the-variants.{Clear, Absent, Failed, Beyond}
+
+-- the lookup gives drive t
+abbrev pub isAt : ℕ → Found → Bool
+isAt t (At i) = eqb i t
+isAt t Nothing = false
+
+-- the first of n entries of the list s that is drive t
+unfoldable pub ownEntry : List ℕ → Geometry → List ℕ → ℕ → ℕ → Found
+ownEntry m g s n t = leastBelow n (λ i. isAt t (driveOf m g (sourceOf s i .address .0)))
+
+-- "for one entry, address, then failed drive, then range": of count blocks from block b on
+unfoldable pub driveBad : List ℕ → Geometry → ℕ → ℕ → ℕ → Found → Fault
+driveBad m g count i b Nothing = Absent i
+driveBad m g count i b (At k) = cond (failed m g k) (Failed i k) (cond (ltb (g .b) (b + count)) (Beyond i) Clear)
+
+unfoldable pub entryBad : List ℕ → Geometry → List ℕ → ℕ → ℕ → Fault
+entryBad m g s count i = driveBad m g count i (sourceOf s i .block .0) (driveOf m g (sourceOf s i .address .0))
+
+-- the fault, or where there is none the next
+abbrev pub orNext : Fault → Fault → Fault
+orNext Clear f = f
+orNext (Absent i) f = Absent i
+orNext (Failed i k) f = Failed i k
+orNext (Beyond i) f = Beyond i
+
+-- "the first source entry in list order that fails decides", of the entries left from entry i on
+unfoldable pub firstBad : List ℕ → Geometry → List ℕ → ℕ → ℕ → ℕ → Fault
+firstBad m g s count i zero = Clear
+firstBad m g s count i (suc left) = orNext (entryBad m g s count i) (firstBad m g s count (i + 1) left)

@@ -1,0 +1,79 @@
+-- What a step, a reset and a marking mean: the decision, and then what is left of the image and of the receive room. A refusal leaves
+-- both alone ("No refusal changes image or receive room."). Assumes nothing.
+use Prim.Native.Nat.{ℕ}
+use mathlib.Core.List.{List, [], _∷_, _++_}
+use lib.Dec.{ltb}
+use lib.ListN.{length}
+use Rattle.octets.specs.Put.{put}
+use Rattle.rules.specs.Rule.{rule, first}
+use Rattle.geometry.specs.declared.Geometry.{Geometry}
+use Rattle.geometry.specs.Header.{geometryOf}
+use Rattle.drives.specs.Table.{driveOf, marked}
+use Rattle.slots.specs.Change.{dropped}
+use Rattle.sense.specs.declared.Answer.{Answer}
+use Rattle.sense.specs.declared.Answer.the-variants.{Good, BadState}
+use Rattle.sense.specs.declared.Outcome.{Outcome}
+use Rattle.sense.specs.Sense.{outcomeOf}
+use Rattle.meaning.specs.declared.Seen.{Seen}
+use Rattle.meaning.specs.declared.Seen.the-variants.{Dash}
+use Rattle.meaning.specs.declared.Decision.{Decision}
+use Rattle.meaning.specs.declared.Decision.the-variants.{Stop, Go}
+use Rattle.meaning.specs.Acts.{index, leaves, hands}
+use Rattle.meaning.specs.Checks.{Check, calls, decideOf}
+
+-- ---- a step: image m, target address a, CDB c, data-out bytes s, receive room r
+
+abbrev pub decided : List ℕ → ℕ → List ℕ → List ℕ → List ℕ → Decision
+decided m a c s r = decideOf m a c s (length r)
+
+abbrev pub imageAfter : Decision → List ℕ → List ℕ → List ℕ
+imageAfter (Stop n w x) m s = m
+imageAfter (Go act x) m s = leaves m (geometryOf m) s act
+
+-- "A GOOD read or XDREAD returns its byte count; bytes past it stay."
+abbrev pub roomAfter : Decision → List ℕ → List ℕ → List ℕ
+roomAfter (Stop n w x) m r = r
+roomAfter (Go act x) m r = put r 0 (hands m (geometryOf m) act)
+
+abbrev pub outcomeAfter : Decision → List ℕ → Outcome
+outcomeAfter (Stop n w x) m = outcomeOf x 0
+outcomeAfter (Go act x) m = outcomeOf x (length (hands m (geometryOf m) act))
+
+unfoldable pub stepImage : List ℕ → ℕ → List ℕ → List ℕ → List ℕ → List ℕ
+stepImage m a c s r = imageAfter (decided m a c s r) m s
+
+unfoldable pub stepRoom : List ℕ → ℕ → List ℕ → List ℕ → List ℕ → List ℕ
+stepRoom m a c s r = roomAfter (decided m a c s r) m r
+
+unfoldable pub stepOutcome : List ℕ → ℕ → List ℕ → List ℕ → List ℕ → Outcome
+stepOutcome m a c s r = outcomeAfter (decided m a c s r) m
+
+-- ---- a reset: "Reset uses 1, 2"; "Hard reset drops all results of its drive, present or failed"
+
+-- the answer of the rule that decides, and what an image is left by it
+abbrev pub answered : ℕ → Seen → Answer → Answer
+answered n w x = x
+
+abbrev pub untouched : List ℕ → ℕ → Seen → Answer → List ℕ
+untouched m n w x = m
+
+abbrev pub target : List ℕ → ℕ → ℕ
+target m a = index (driveOf m (geometryOf m) a)
+
+unfoldable pub resetAnswer : List ℕ → ℕ → Answer
+resetAnswer m a = first answered (calls m a) Good
+
+unfoldable pub resetImage : List ℕ → ℕ → List ℕ
+resetImage m a = first (untouched m) (calls m a) (dropped m (geometryOf m) (target m a))
+
+-- ---- a marking: "marking uses 1, 2, 6"; "Marking writes the state byte alone"
+
+-- "6 state to mark is not 0 or 1"
+abbrev pub markCalls : List ℕ → ℕ → ℕ → List Check
+markCalls m a state = calls m a ++ rule 1 Dash (ltb 1 state) BadState ∷ []
+
+unfoldable pub markAnswer : List ℕ → ℕ → ℕ → Answer
+markAnswer m a state = first answered (markCalls m a state) Good
+
+unfoldable pub markImage : List ℕ → ℕ → ℕ → List ℕ
+markImage m a state = first (untouched m) (markCalls m a state) (marked m (geometryOf m) (target m a) state)

@@ -1,0 +1,38 @@
+-- The tables of examples hold, by computation. Assumes nothing.
+use mathlib.Core.Path.{_≡_, refl}
+use mathlib.Core.List.{List, map}
+use Rattle.octets.specs.Part.{part}
+use Rattle.octets.specs.Put.{put}
+use Rattle.octets.specs.Xor.{_⊻_}
+use Rattle.octets.specs.Operands.{xorAll}
+use Rattle.octets.specs.Number.{num, toBe}
+use Rattle.rules.specs.Every.{every}
+use Rattle.rules.specs.All.{allBelow}
+use Rattle.rules.specs.Count.{countBelow}
+use Rattle.rules.specs.Least.{leastBelow}
+use Rattle.geometry.specs.Header.{rangesOk, offsetsOk, framedOk, slotAt, place}
+use Rattle.drives.specs.Table.{statesOk, newAddress, addressesOk, tableOk, driveOf, marked}
+use Rattle.slots.specs.Record.{slotOf, bytesOf}
+use Rattle.slots.specs.Slots.{slotOk, eachOk, ranksOk, slotsOk}
+use Rattle.slots.specs.Find.{emptySlot, better, bestOf, newestOf}
+use Rattle.slots.specs.Change.{released, lowerOne, lowered, dropped, droppedTo, dropOne}
+use Rattle.image.specs.Valid.{validImage}
+use Rattle.sense.specs.Sense.{noSense, plainSense, absentSense, nestedSense}
+use Rattle.command.specs.Command.{opOf, sixteenOf, tenOf, listedOf, ownOf, resolvedOf, listBytes, sourceOf}
+use Rattle.meaning.specs.Acts.{sourcesFrom, gathered}
+use Rattle.meaning.specs.Sources.{ownEntry, driveBad, entryBad, firstBad}
+use Rattle.meaning.specs.Checks.{decideOf}
+use Rattle.meaning.specs.Step.{stepImage, stepRoom, stepOutcome, resetImage, resetAnswer, markImage, markAnswer}
+use Rattle.meaning.specs.Row.{Row, Seen, got}
+use Rattle.meaning.specs.Cases.{table}
+use Rattle.meaning.specs.Several.{several}
+
+-- C1 to C11 of 01
+pub cases : map got table ≡ map (λ (w : Row). w .want) table
+unfolding decideOf stepImage stepRoom stepOutcome resetImage resetAnswer markImage markAnswer validImage framedOk rangesOk offsetsOk tableOk statesOk newAddress addressesOk slotsOk eachOk ranksOk slotOk slotOf slotAt place every allBelow countBelow leastBelow driveOf emptySlot newestOf bestOf better released lowered lowerOne dropped droppedTo dropOne marked bytesOf part put num toBe _⊻_ xorAll sourcesFrom gathered opOf sixteenOf tenOf listedOf ownOf resolvedOf listBytes sourceOf ownEntry driveBad entryBad firstBad noSense plainSense absentSense nestedSense
+cases = refl
+
+-- several slots
+pub several-cases : map got several ≡ map (λ (w : Row). w .want) several
+unfolding decideOf stepImage stepRoom stepOutcome resetImage resetAnswer markImage markAnswer validImage framedOk rangesOk offsetsOk tableOk statesOk newAddress addressesOk slotsOk eachOk ranksOk slotOk slotOf slotAt place every allBelow countBelow leastBelow driveOf emptySlot newestOf bestOf better released lowered lowerOne dropped droppedTo dropOne marked bytesOf part put num toBe _⊻_ xorAll sourcesFrom gathered opOf sixteenOf tenOf listedOf ownOf resolvedOf listBytes sourceOf ownEntry driveBad entryBad firstBad noSense plainSense absentSense nestedSense
+several-cases = refl

@@ -1,0 +1,54 @@
+// What a step means: the types of a decision, and in `specs/` the definitions that every contract of the
+// step cites. There is no code here, so that theorems over the definitions never wait for code.
+use geometry::Block;
+use sense::Answer;
+
+// Blocks of a drive.
+pub struct Span {
+    pub drive: usize,
+    pub block: Block,
+    pub count: usize,
+}
+
+// What a command that passed every check does. Flags are 0 or 1.
+pub enum Act {
+    Read(Span),
+    Write(Span),
+    XpWrite(Span),
+    // the blocks, and the slot that answers
+    XdRead(Span, usize),
+    // the data's blocks, the secondary's, Mirror
+    Couple(Span, Span, usize),
+    // the data's blocks, the slot that takes the result, Mirror, NDisc
+    Retain(Span, usize, usize, usize),
+    // the target's blocks, how many sources, Int Data
+    Rebuild(Span, usize, usize),
+    // the same, and the slot that takes the result
+    Regenerate(Span, usize, usize, usize),
+}
+
+// Where the check that decided saw it: nowhere, a byte of the CDB or of the parameter list, the state
+// of a drive, a byte of a source entry, or the state of the drive that a source entry names.
+pub enum Seen {
+    Dash,
+    Cdb(usize),
+    List(usize),
+    Drive(usize),
+    Entry(usize, usize),
+    EntryDrive(usize, usize),
+}
+
+// What is wrong with the first source entry that fails: the entry, and of a failed drive its index.
+pub enum Fault {
+    Clear,
+    Absent(usize),
+    Failed(usize, usize),
+    Beyond(usize),
+}
+
+// A check decided: its number in 01's list, where it was seen, and the answer. Or none did: what is done,
+// and the answer to it.
+pub enum Decision {
+    Stop(usize, Seen, Answer),
+    Go(Act, Answer),
+}
