@@ -1,11 +1,13 @@
--- Shelves with several slots, where the newest result is not in the lowest one: who answers XDREAD, which slot is taken, and what a
--- reset leaves. C1 to C11 have one slot and cannot tell. Assumes nothing.
+-- What C1 to C11 cannot tell. They have one slot: here are several, and the newest result is not in the lowest one. And they rebuild a
+-- zeroed block: here the target holds something. Assumes nothing.
 use Prim.Native.Nat.{ℕ}
 use mathlib.Core.List.{List, [], _∷_, _++_}
 use lib.ListN.{replicate}
 use Rattle.meaning.specs.Calls.{Call, command, reset}
 use Rattle.meaning.specs.Row.{Seen, Row, quiet, refused}
-use Rattle.meaning.specs.Cases.{four, zeros, ten, fresh, result, room}
+use Rattle.image.specs.Bench.{bench}
+use Rattle.meaning.specs.Cases.{four, zeros, ten, listed, head, source, two, three, vacant, shelfOf, fresh, result, room}
+use Rattle.meaning.specs.Cases.{row as benchRow}
 
 -- a record, and an empty one
 abbrev held : ℕ → ℕ → ℕ → ℕ → ℕ → List ℕ
@@ -80,4 +82,6 @@ several =
     -- a room too short is call 5, and the result stays
     ∷ row start (keep 0x06 0 1 fresh ∷ []) 1 0 1 (replicate 3 0xAA)
     (quiet 261 0 (pair (held 1 1 0 1 0 ++ result ++ zeros) (empty ++ zeros ++ zeros) fresh zeros) (replicate 3 0xAA))
+    -- the target's own block is no operand of REBUILD
+    ∷ benchRow (shelfOf 0 vacant fresh two three) [] 1 (listed 0xC3 0x18) (head 2 ++ source 2 ++ source 3) (quiet 0 0 bench room)
     ∷ []
