@@ -49,3 +49,10 @@ shelf-kept s t g h n e ok =
       table-ok = table-same t s g p e ∙ h .table-ok;
       slots-ok = ok;
     }
+
+-- as the code reads the header of a valid image
+pub valid-long : (s : List ℕ) → validImage s ≡ true → 32 ≤ length s
+valid-long s e = framed-long s (shelf s e .framed-ok)
+
+pub valid-framed : (s : List ℕ) (g : Geometry) → validImage s ≡ true → g ≡ geometryOf s → Framed s g
+valid-framed s g e h = subst (Framed s) (sym h) (shelf-frame s (geometryOf s) (shelf s e))
