@@ -56,7 +56,6 @@ pub record Entry (s : List ℕ) (g : Geometry) (x : Span) (sent : List ℕ) (i :
 
 pub record Sourced (s : List ℕ) (g : Geometry) (x : Span) (n int : ℕ) (sent : List ℕ) : Type 0 where
   pub some-source : 1 ≤ n
-  pub few : n < 256
   pub exact : length sent ≡ 8 + 8 * n + cond (eqb int 0) 0 (x .count * g .l)
   pub each : (i : ℕ) → i < n → Entry s g x sent i
 
@@ -69,3 +68,14 @@ Allowed s g sent room (Couple x y mirror) = Blocks s g x × Blocks s g y × (x .
 Allowed s g sent room (Retain x i mirror ndisc) = Blocks s g x × Filled g x sent × Limited g x × Free s g i
 Allowed s g sent room (Rebuild x n int) = Blocks s g x × Sourced s g x n int sent
 Allowed s g sent room (Regenerate x n int i) = Blocks s g x × Sourced s g x n int sent × Limited g x × Free s g i
+
+-- where an act has sources, a byte counts them
+abbrev pub Few : Act → Type 0
+Few (Read x) = Unit {0}
+Few (Write x) = Unit {0}
+Few (XpWrite x) = Unit {0}
+Few (XdRead x i) = Unit {0}
+Few (Couple x y mirror) = Unit {0}
+Few (Retain x i mirror ndisc) = Unit {0}
+Few (Rebuild x n int) = n < 256
+Few (Regenerate x n int i) = n < 256

@@ -1,0 +1,37 @@
+-- `act::rebuild::regenerate` meets its contract. Assumes nothing.
+use borrow.Author.Needs.{needs}
+use Rattle.act.specs.Rebuild.{regenerate-ready, regenerated-by}
+use Rattle.act.proofs.rebuild.regenerate.Statement.{statement}
+use Rattle.act.proofs.rebuild.regenerate.Tie as tie
+
+gather-requires : tie.Need-gather-requires
+gather-requires c κs =
+    let pre = c .before .before .before .before .before .before .before .pre in
+    let args = c .before .before .before .before .before .before .before .args in
+    let place = c .before .place in
+    let slot-at = c .before .before .slot-at in
+    regenerate-ready _ _ _ _ _ _ (pre .0) (pre .1 .0) (pre .1 .1) (pre .2) (args .i) _ _ (place .ensures .0) (slot-at .ensures .0) (pre .1 .2) (pre .1 .3)
+
+returns : tie.Need-returns
+returns c =
+    let pre = c .before .before .before .before .before .before .before .before .before .before .before .before .before .before .pre in
+    let args = c .before .before .before .before .before .before .before .before .before .before .before .before .before .before .args in
+    let place = c .before .before .before .before .before .before .before .before .place in
+    let slot-at = c .before .before .before .before .before .before .before .before .before .slot-at in
+    let next-rank = c .before .before .before .before .before .before .before .before .before .before .next-rank in
+    let gather = c .before .before .before .before .before .before .gather in
+    let enter = c .before .before .enter in
+    regenerated-by _ _ _ _ _ _ (pre .0) (pre .1 .0) (pre .1 .1) (pre .2) (args .i) _ _ (place .ensures .0) (slot-at .ensures .0) _ _ _ (next-rank .ensures) (gather .ensures) (enter .ensures)
+
+pub regenerate-spec : {M : Type 1} → statement M
+regenerate-spec =
+    tie.close
+    (tie.spec
+    (λ c κs. search needs)
+    (λ c κs. search needs)
+    (λ c κs. search needs)
+    (λ c. search needs)
+    gather-requires
+    (λ c κs. search needs)
+    (λ c. search needs)
+    returns)

@@ -1,0 +1,24 @@
+-- `act::xdwrite::couple` meets its contract. Assumes nothing.
+use borrow.Author.Needs.{needs}
+use Rattle.act.specs.Xdwrite.{couple-clear, coupled-by}
+use Rattle.act.proofs.xdwrite.couple.Statement.{statement}
+use Rattle.act.proofs.xdwrite.couple.Tie as tie
+
+pass-on-requires : tie.Need-pass-on-requires
+pass-on-requires c κs =
+    let pre = c .before .before .before .before .before .pre in
+    let place = c .before .before .place in
+    let place2 = c .before .place2 in
+    couple-clear _ _ _ _ _ _ _ _ (pre .1 .2) (pre .1 .4) (place .ensures .0) (place2 .ensures .0) (pre .0) (pre .1 .0) (pre .1 .1) (pre .1 .3)
+
+returns : tie.Need-returns
+returns c =
+    let pre = c .before .before .before .before .before .before .before .before .pre in
+    let place = c .before .before .before .before .before .place in
+    let place2 = c .before .before .before .before .place2 in
+    let pass-on = c .before .before .pass-on in
+    coupled-by _ _ _ _ _ _ _ _ (pre .1 .2) (pre .1 .4) (place .ensures .0) (place2 .ensures .0) _ (pass-on .ensures)
+
+pub couple-spec : {M : Type 1} → statement M
+couple-spec =
+    tie.close (tie.spec (λ c κs. search needs) (λ c κs. search needs) pass-on-requires (λ c. search needs) returns)

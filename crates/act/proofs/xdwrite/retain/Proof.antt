@@ -1,0 +1,37 @@
+-- `act::xdwrite::retain` meets its contract. Assumes nothing.
+use borrow.Author.Needs.{needs}
+use Rattle.act.specs.Xdwrite.{retain-clear, retained-by}
+use Rattle.act.proofs.xdwrite.retain.Statement.{statement}
+use Rattle.act.proofs.xdwrite.retain.Tie as tie
+
+pass-on-requires : tie.Need-pass-on-requires
+pass-on-requires c κs =
+    let args = c .before .before .before .before .before .before .before .args in
+    let pre = c .before .before .before .before .before .before .before .pre in
+    let place = c .before .place in
+    let slot-at = c .before .before .slot-at in
+    retain-clear _ _ _ (args .i) _ (args .ndisc) _ _ _ (pre .1 .1) (place .ensures .0) (slot-at .ensures .0) (pre .0) (pre .1 .0) (pre .1 .2) (pre .1 .3)
+
+returns : tie.Need-returns
+returns c =
+    let args = c .before .before .before .before .before .before .before .before .before .before .before .before .before .before .args in
+    let pre = c .before .before .before .before .before .before .before .before .before .before .before .before .before .before .pre in
+    let place = c .before .before .before .before .before .before .before .before .place in
+    let slot-at = c .before .before .before .before .before .before .before .before .before .slot-at in
+    let next-rank = c .before .before .before .before .before .before .before .before .before .before .next-rank in
+    let pass-on = c .before .before .before .before .before .before .pass-on in
+    let enter = c .before .before .enter in
+    retained-by _ _ _ (args .i) _ (args .ndisc) _ _ _ (pre .1 .1) (place .ensures .0) (slot-at .ensures .0) _ _ _ (next-rank .ensures) (pass-on .ensures) (enter .ensures)
+
+pub retain-spec : {M : Type 1} → statement M
+retain-spec =
+    tie.close
+    (tie.spec
+    (λ c κs. search needs)
+    (λ c κs. search needs)
+    (λ c κs. search needs)
+    (λ c. search needs)
+    pass-on-requires
+    (λ c κs. search needs)
+    (λ c. search needs)
+    returns)

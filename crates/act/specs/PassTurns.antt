@@ -1,0 +1,131 @@
+-- How XDWRITE's bytes go on from piece to piece. Assumes nothing.
+use Prim.Native.Nat.{ℕ, _+_, _≤_}
+use native.Mathlib.Omega.{arith}
+use mathlib.Core.Path.{_≡_, refl, sym, ap, ap₂, _∙_}
+use mathlib.Core.Bool.{Bool, true, false, cond}
+use mathlib.Core.Logic.{_⊎_, inl, inr, ⊎-elim}
+use mathlib.Core.List.{List, []}
+use lib.Dec.{eqb}
+use lib.ListN.{length}
+use Rattle.octets.specs.Part.{part, length-part, part-part}
+use Rattle.octets.specs.Put.{put, put-nil, length-put}
+use Rattle.octets.specs.PutPut.{part-put-apart, put-comm}
+use Rattle.octets.specs.Xor.{_⊻_, part-xor, length-xor-le}
+use Rattle.gather.specs.Parts.{part-nil, length-part-le, part-whole, put-parts}
+use Rattle.act.specs.declared.pass.Pass.{Pass}
+use Rattle.act.specs.Pass.{mixed, laid, dataOf, laidOf, passed, laidPiece, passedPiece, Clear}
+
+-- ---- a piece of the whole
+
+mixed-part : (none : Bool) (xs ys : List ℕ) (o k : ℕ) → part (cond none (xs ⊻ ys) xs) o k ≡ cond none (part xs o k ⊻ part ys o k) (part xs o k)
+mixed-part true xs ys o k = part-xor xs ys o k
+mixed-part false xs ys o k = refl
+
+laid-part : (adds : Bool) (xs ys : List ℕ) (o k : ℕ) → part (laid adds xs ys) o k ≡ laid adds (part xs o k) (part ys o k)
+laid-part true xs ys o k = part-xor xs ys o k
+laid-part false xs ys o k = refl
+
+data-part : (writes : Bool) (xs : List ℕ) (o k : ℕ) → part (cond writes xs []) o k ≡ cond writes (part xs o k) []
+data-part true xs o k = refl
+data-part false xs o k = part-nil o k
+
+piece-of : (s sent : List ℕ) (p : Pass) (o k : ℕ) → o + k ≤ length sent → part (laidOf s sent p) o k ≡ laidPiece s sent p o k
+piece-of s sent p o k h =
+    let n = length sent in
+    laid-part (p .adds) (part s (p .to) n) (mixed (p .mirror) sent (part s (p .from) n)) o k
+    ∙ ap₂ (laid (p .adds)) (part-part s (p .to) n o k h)
+    (mixed-part (eqb (p .mirror) 0) sent (part s (p .from) n) o k ∙ ap (mixed (p .mirror) (part sent o k)) (part-part s (p .from) n o k h))
+
+-- ---- lengths
+
+mixed-length : (none : Bool) (xs ys : List ℕ) → length ys ≡ length xs → length (cond none (xs ⊻ ys) xs) ≡ length xs
+mixed-length true xs ys e = length-xor-le xs ys (omega arith)
+mixed-length false xs ys e = refl
+
+laid-length : (adds : Bool) (xs ys : List ℕ) → length xs ≡ length ys → length (laid adds xs ys) ≡ length ys
+laid-length true xs ys e = length-xor-le xs ys (omega arith) ∙ e
+laid-length false xs ys e = refl
+
+data-length : (writes : Bool) (xs : List ℕ) → length (cond writes xs []) ≤ length xs
+data-length true xs = omega arith
+data-length false xs = omega arith
+
+module _ (s sent : List ℕ) (p : Pass) (h : Clear s sent p) where
+  laidOf-length : length (laidOf s sent p) ≡ length sent
+  laidOf-length =
+      let n = length sent in
+      let f : length (part s (p .from) n) ≡ n = length-part s (p .from) n (h .from-in) in
+      let t : length (part s (p .to) n) ≡ n = length-part s (p .to) n (h .to-in) in
+      let m : length (mixed (p .mirror) sent (part s (p .from) n)) ≡ n = mixed-length (eqb (p .mirror) 0) sent (part s (p .from) n) f in
+      laid-length (p .adds) (part s (p .to) n) (mixed (p .mirror) sent (part s (p .from) n)) (omega arith) ∙ m
+
+-- ---- the first o bytes are passed on
+
+module _ (s sent : List ℕ) (p : Pass) where
+  unfoldable pub reached : ℕ → List ℕ
+  reached o = put (put s (p .from) (part (dataOf sent p) 0 o)) (p .to) (part (laidOf s sent p) 0 o)
+
+  pub reached-none : s ≡ reached 0
+  unfolding reached part
+  reached-none = sym (put-nil (put s (p .from) []) (p .to) ∙ put-nil s (p .from))
+
+  module _ (h : Clear s sent p) (o : ℕ) (t : List ℕ) (e : t ≡ reached o) where
+    reached-length : length t ≡ length s
+    unfolding reached
+    reached-length =
+        ap length e
+        ∙ length-put (put s (p .from) (part (dataOf sent p) 0 o)) (p .to) (part (laidOf s sent p) 0 o)
+        ∙ length-put s (p .from) (part (dataOf sent p) 0 o)
+
+    pub reached-clear : Clear t sent p
+    reached-clear =
+        let l = reached-length in
+        record { from-in = omega (arith, h .from-in); to-in = omega (arith, h .to-in); apart = h .apart }
+
+    -- what is not yet passed on stands as it was
+    rest-kept : (a k : ℕ) → (a + k ≤ p .from) ⊎ (p .from + o ≤ a) → (a + k ≤ p .to) ⊎ (p .to + o ≤ a) → part t a k ≡ part s a k
+    unfolding reached
+    rest-kept a k x y =
+        let d = part (dataOf sent p) 0 o in
+        let b = part (laidOf s sent p) 0 o in
+        let ld : length d ≤ o = length-part-le (dataOf sent p) 0 o in
+        let lb : length b ≤ o = length-part-le (laidOf s sent p) 0 o in
+        ap (λ (w : List ℕ). part w a k) e
+        ∙ part-put-apart (put s (p .from) d) (p .to) b a k (⊎-elim (λ l. inl l) (λ l. inr (omega arith)) y)
+        ∙ part-put-apart s (p .from) d a k (⊎-elim (λ l. inl l) (λ l. inr (omega arith)) x)
+
+    module _ (k : ℕ) (le : o + k ≤ length sent) where
+      from-kept : part t (p .from + o) k ≡ part s (p .from + o) k
+      from-kept = rest-kept (p .from + o) k (inr (omega arith)) (⊎-elim (λ l. inl (omega arith)) (λ l. inr (omega arith)) (h .apart))
+
+      to-kept : part t (p .to + o) k ≡ part s (p .to + o) k
+      to-kept = rest-kept (p .to + o) k (⊎-elim (λ l. inr (omega arith)) (λ l. inl (omega arith)) (h .apart)) (inr (omega arith))
+
+      piece-kept : laidPiece t sent p o k ≡ part (laidOf s sent p) o k
+      piece-kept =
+          ap₂ (λ (x y : List ℕ). laid (p .adds) x (mixed (p .mirror) (part sent o k) y)) to-kept from-kept ∙ sym (piece-of s sent p o k le)
+
+      -- data beyond what was passed on, and what was passed on, change places
+      swap : (w b d : List ℕ) → length b ≤ o → length d ≤ k → put (put w (p .to) b) (p .from + o) d ≡ put (put w (p .from + o) d) (p .to) b
+      swap w b d lb ld =
+          ⊎-elim (λ l. sym (put-comm w (p .from + o) d (p .to) b (omega arith))) (λ l. put-comm w (p .to) b (p .from + o) d (omega arith)) (h .apart)
+
+      pub reached-more : (u : List ℕ) → u ≡ passedPiece t sent p o k → u ≡ reached (o + k)
+      unfolding reached passedPiece
+      reached-more u ue =
+          let v = dataOf sent p in
+          let r = laidOf s sent p in
+          let a = put s (p .from) (part v 0 o) in
+          ue
+          ∙ ap₂ (λ (x y : List ℕ). put (put t (p .from + o) x) (p .to + o) y) (sym (data-part (p .writes) sent o k)) piece-kept
+          ∙ ap (λ (x : List ℕ). put (put x (p .from + o) (part v o k)) (p .to + o) (part r o k)) e
+          ∙ ap (λ (x : List ℕ). put x (p .to + o) (part r o k)) (swap a (part r 0 o) (part v o k) (length-part-le r 0 o) (length-part-le v o k))
+          ∙ ap (λ (x : List ℕ). put (put x (p .to) (part r 0 o)) (p .to + o) (part r o k)) (put-parts s (p .from) v o k)
+          ∙ put-parts (put s (p .from) (part v 0 (o + k))) (p .to) r o k
+
+    pub reached-all : length sent ≤ o → t ≡ passed s sent p
+    unfolding reached passed
+    reached-all le =
+        e
+        ∙ ap₂ (λ (x y : List ℕ). put (put s (p .from) x) (p .to) y) (part-whole (dataOf sent p) o (omega (arith, data-length (p .writes) sent)))
+        (part-whole (laidOf s sent p) o (omega (arith, laidOf-length s sent p h)))

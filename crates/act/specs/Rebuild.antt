@@ -1,0 +1,116 @@
+-- REBUILD and REGENERATE, from what the decision showed to what the command leaves. Assumes nothing.
+use Prim.Native.Nat.{ℕ, _+_, _*_, _≤_, _<_}
+use native.Mathlib.Omega.{arith}
+use mathlib.Core.Path.{_≡_, sym, ap, ap₂, _∙_}
+use mathlib.Core.Bool.{Bool, true, false, cond, true≢false}
+use mathlib.Core.Logic.{inr}
+use mathlib.Core.List.{List}
+use lib.Dec.{eqb}
+use lib.ListN.{length}
+use Rattle.octets.specs.Part.{part}
+use Rattle.octets.specs.Put.{put}
+use Rattle.octets.specs.Xor.{_⊻_, nil-xor}
+use Rattle.geometry.specs.declared.Geometry.{Geometry}
+use Rattle.geometry.specs.Header.{slotAt}
+use Rattle.geometry.specs.Frame.{Framed}
+use Rattle.geometry.specs.Places.{Range, place-after-media, places-apart, range-room, slot-before-media, data-ends}
+use Rattle.slots.specs.Record.{bytesOf}
+use Rattle.slots.specs.Slots.{usedCount}
+use Rattle.slots.specs.Change.{entry}
+use Rattle.command.specs.Command.{sourceOf}
+use Rattle.meaning.specs.declared.Span.{Span}
+use Rattle.meaning.specs.declared.Act.the-variants.{Rebuild, Regenerate}
+use Rattle.meaning.specs.Acts.{spanAt, index, gathered, leaves}
+use Rattle.meaning.specs.Allowed.{Blocks, Entry, Sourced, Limited, Free}
+use Rattle.gather.specs.declared.Job.{Job}
+use Rattle.gather.specs.Job.{summed, homeOf, startOf, Named, Apart, Listed, Ready}
+use Rattle.act.specs.Moves.{span-in, data-in}
+
+module _ (s : List ℕ) (g : Geometry) (x : Span) (n int : ℕ) (sent : List ℕ) (frame : Framed s g) (b : Blocks s g x) (h : Sourced s g x n int sent) (few : n < 256) where
+  -- ---- the sources
+
+  home-is : (i : ℕ) (e : Entry s g x sent i) → homeOf s g (sourceOf sent i) ≡ e .drive
+  home-is i e = ap index (e .found)
+
+  source-range : (i : ℕ) → i < n → Range g (homeOf s g (sourceOf sent i)) (sourceOf sent i .block .0) (x .count)
+  source-range i l = let e = h .each i l in rw (home-is i e) (e .range)
+
+  source-named : (i : ℕ) → i < n → Named s g (sourceOf sent i)
+  source-named i l = let r = source-range i l in record { drive-in = r .drive-in; block-in = omega (arith, r .range-in) }
+
+  source-in : (i : ℕ) → i < n → startOf s g (sourceOf sent i) + x .count * g .l ≤ length s
+  source-in i l = range-room s g (homeOf s g (sourceOf sent i)) (sourceOf sent i .block .0) (x .count) frame (source-range i l)
+
+  list-long : (none : Bool) → length sent ≡ 8 + 8 * n + cond none 0 (x .count * g .l) → (8 + 8 * n ≤ length sent) × (none ≡ false → length sent ≡ 8 + 8 * n + x .count * g .l)
+  list-long true e = (omega arith, λ (q : true ≡ false). absurd (true≢false q))
+  list-long false e = (omega arith, λ (q : false ≡ false). e)
+
+  sources-listed : Listed s g sent n
+  sources-listed =
+      record { frame = frame; few = few; long = list-long (eqb int 0) (h .exact) .0; each = source-named }
+
+  -- another drive's blocks
+  source-apart : (i : ℕ) → i < n → Apart (startOf s g (sourceOf sent i)) (spanAt g x) (x .count * g .l)
+  source-apart i l =
+      let e = h .each i l in
+      places-apart g (homeOf s g (sourceOf sent i)) (x .drive) (sourceOf sent i .block .0) (x .block .0) (x .count) (rw (home-is i e) (e .other)) (source-range i l)
+      (b .range)
+
+  -- ---- REBUILD
+
+  abbrev rebuilding : ℕ → Job
+  rebuilding at = record { own = false; from = at; to = at; count = x .count; sources = n; int = int }
+
+  pub rebuild-ready : (at : ℕ) → at ≡ spanAt g x → Ready s g sent (rebuilding at)
+  rebuild-ready at e =
+      let m = list-long (eqb int 0) (h .exact) in
+      let a : at + x .count * g .l ≤ length s = omega (arith, span-in s g x frame (b .range)) in
+      record {
+        listed = sources-listed;
+        some-source = h .some-source;
+        exact = m .1;
+        own-in = a;
+        to-in = a;
+        own-apart = λ (q : false ≡ true). absurd (true≢false (sym q));
+        inside = source-in;
+        apart = λ i l. rw e (source-apart i l);
+      }
+
+  pub rebuilt-by : (at : ℕ) (t : List ℕ) → at ≡ spanAt g x → t ≡ put s at (summed s g sent (rebuilding at)) → t ≡ leaves s g sent (Rebuild x n int)
+  unfolding summed
+  rebuilt-by at t e te =
+      te
+      ∙ ap (put s at) (nil-xor (gathered s g sent (x .count) n int))
+      ∙ ap (λ (a : ℕ). put s a (gathered s g sent (x .count) n int)) e
+
+  -- ---- REGENERATE
+
+  module _ (i from at : ℕ) (fe : from ≡ spanAt g x) (ae : at ≡ slotAt g i) where
+    abbrev regenerating : Job
+    regenerating = record { own = true; from = from; to = at + 16; count = x .count; sources = n; int = int }
+
+    pub regenerate-ready : Limited g x → Free s g i → Ready s g sent regenerating
+    regenerate-ready m k =
+        let q = list-long (eqb int 0) (h .exact) in
+        let d : at + 16 + x .count * g .l ≤ g .media =
+        omega (arith, slot-before-media g i (frame .placed) (k .slot-in), data-ends g i (x .count) m) in
+        let p : g .media ≤ spanAt g x = place-after-media g (x .drive) (x .block .0) in
+        record {
+          listed = sources-listed;
+          some-source = h .some-source;
+          exact = q .1;
+          own-in = omega (arith, span-in s g x frame (b .range));
+          to-in = omega (arith, data-in s g i (x .count) frame (k .slot-in) m);
+          own-apart = λ o. inr (omega arith);
+          inside = source-in;
+          apart = λ e l. inr (omega (arith, place-after-media g (homeOf s g (sourceOf sent e)) (sourceOf sent e .block .0)));
+        }
+
+    pub regenerated-by : (rank : ℕ) (t u : List ℕ) → rank ≡ usedCount s g + 1 → t ≡ put s (at + 16) (summed s g sent regenerating)
+        → u ≡ put t at (bytesOf (entry rank 2 (x .drive) (x .block .0) (x .count))) → u ≡ leaves s g sent (Regenerate x n int i)
+    unfolding summed
+    regenerated-by rank t u re te ue =
+        let v = gathered s g sent (x .count) n int in
+        ue
+        ∙ ap₂ (λ (w : List ℕ) (k : ℕ). put w at (bytesOf (entry k 2 (x .drive) (x .block .0) (x .count)))) te re
+        ∙ ap₂ (λ (p q : ℕ). put (put s (q + 16) (part s p (x .count * g .l) ⊻ v)) q (bytesOf (entry (usedCount s g + 1) 2 (x .drive) (x .block .0) (x .count)))) fe ae

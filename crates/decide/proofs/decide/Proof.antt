@@ -1,0 +1,30 @@
+-- `decide::decide` meets its contract. Assumes nothing.
+use mathlib.Core.Path.{sym, _∙_}
+use borrow.Author.Needs.{needs}
+use Rattle.decide.specs.Called.{called-drive, called-refused}
+use Rattle.meaning.specs.Checks.{decideOf}
+use Rattle.decide.specs.Joined.{decide-on}
+use Rattle.decide.proofs.decide.Statement.{statement}
+use Rattle.decide.proofs.decide.Tie as tie
+
+opened-requires : tie.Need-opened-requires
+opened-requires c κs =
+    let called = c .before .before .before .called in
+    let g = c .before .g in
+    let x = called-drive _ _ _ _ (sym (called .ensures) ∙ g .given .1) in (x .frame, x .inside)
+
+returns : tie.Need-returns
+unfolding decideOf
+returns c = called-refused _ _ _ _ (sym (c .before .before .before .called .ensures) ∙ c .before .answer .given .1)
+
+returns-2 : tie.Need-returns-2
+returns-2 c =
+    let opened = c .opened in
+    let called = c .before .before .before .before .called in
+    let g = c .before .before .g in
+    opened .ensures ∙ decide-on _ _ _ _ _ _ _ (called-drive _ _ _ _ (sym (called .ensures) ∙ g .given .1))
+
+pub decide-spec : {M : Type 1} → statement M
+decide-spec =
+    tie.close
+    (tie.spec (λ c κs. search needs) (λ c. search needs) (λ c. search needs) opened-requires returns returns-2)

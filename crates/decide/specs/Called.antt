@@ -1,0 +1,87 @@
+-- Calls 1 and 2, which a command, a reset and a marking have in common. Assumes nothing.
+use Prim.Native.Nat.{ℕ, _<_}
+use native.Mathlib.Omega.{arith}
+use mathlib.Core.Bool.{Bool, true, false, not}
+use mathlib.Core.List.{List, [], _∷_}
+use mathlib.Core.Path.{_≡_, refl, sym, ap, _∙_}
+use Rattle.rules.specs.declared.Found.{Found}
+use Rattle.rules.specs.declared.Found.the-variants.{At, Nothing}
+use Rattle.rules.specs.Rule.{rule, first}
+use Rattle.geometry.specs.declared.Geometry.{Geometry}
+use Rattle.geometry.specs.Header.{geometryOf}
+use Rattle.geometry.specs.Frame.{Framed}
+use Rattle.drives.specs.Table.{driveOf}
+use Rattle.drives.specs.Lookup.{drive-inside}
+use Rattle.image.specs.Valid.{validImage}
+use Rattle.image.specs.Shelf.{valid-framed}
+use Rattle.sense.specs.declared.Answer.{Answer}
+use Rattle.sense.specs.declared.Answer.the-variants.{BadImage, NoTarget}
+use Rattle.meaning.specs.declared.Seen.{Seen}
+use Rattle.meaning.specs.declared.Seen.the-variants.{Dash}
+use Rattle.meaning.specs.declared.Decision.{Decision}
+use Rattle.meaning.specs.declared.Decision.the-variants.{Stop}
+use Rattle.meaning.specs.Acts.{index}
+use Rattle.meaning.specs.Checks.{isNothing, calls}
+use Rattle.decide.specs.declared.Reached.{Reached}
+use Rattle.decide.specs.declared.Reached.the-variants.{Refused, Drive}
+
+abbrev pub refused : ℕ → Seen → Answer → Reached
+refused n w x = Refused x
+
+-- "1 image not valid; 2 no such target"; or the target
+unfoldable pub calledOf : List ℕ → ℕ → Reached
+calledOf m a = first refused (calls m a) (Drive (geometryOf m) (index (driveOf m (geometryOf m) a)))
+
+-- ---- as the code goes
+
+module _ (m : List ℕ) (a : ℕ) where
+  pub called-bad : validImage m ≡ false → Refused BadImage ≡ calledOf m a
+  unfolding calledOf
+  called-bad v = rw v
+
+  module _ (v : validImage m ≡ true) (g : Geometry) (h : g ≡ geometryOf m) where
+    pub called-none : driveOf m g a ≡ Nothing → Refused NoTarget ≡ calledOf m a
+    unfolding calledOf
+    called-none f = let e : driveOf m (geometryOf m) a ≡ Nothing = ap (λ (x : Geometry). driveOf m x a) (sym h) ∙ f in rw (v, e)
+
+    pub called-at : (t : ℕ) → driveOf m g a ≡ At t → Drive g t ≡ calledOf m a
+    unfolding calledOf
+    called-at t f = let e : driveOf m (geometryOf m) a ≡ At t = ap (λ (x : Geometry). driveOf m x a) (sym h) ∙ f in rw (v, e, h)
+
+-- ---- what it says
+
+-- image m is a shelf with geometry g, and drive t has address a
+pub record Target (m : List ℕ) (a : ℕ) (g : Geometry) (t : ℕ) : Type 0 where
+  pub valid : validImage m ≡ true
+  pub header : g ≡ geometryOf m
+  pub found : driveOf m g a ≡ At t
+  pub frame : Framed m g
+  pub inside : t < g .d
+
+module _ (m : List ℕ) (a : ℕ) where
+  pub called-drive : (g : Geometry) (t : ℕ) → calledOf m a ≡ Drive g t → Target m a g t
+  unfolding calledOf
+  called-drive g t e = pick (validImage m) (driveOf m (geometryOf m) a) refl refl e
+    where
+      pick : (v : Bool) (f : Found) → validImage m ≡ v → driveOf m (geometryOf m) a ≡ f
+          → first refused (rule 1 Dash (not v) BadImage ∷ rule 1 Dash (isNothing f) NoTarget ∷ []) (Drive (geometryOf m) (index f)) ≡ Drive g t
+          → Target m a g t
+      pick false f p q e = let z : _≡_ {A = ℕ} 0 1 = cc in absurd (omega arith)
+      pick true Nothing p q e = let z : _≡_ {A = ℕ} 0 1 = cc in absurd (omega arith)
+      pick true (At i) p q e =
+          let h : g ≡ geometryOf m = cc in
+          let j : i ≡ t = cc in
+          let f : driveOf m g a ≡ At t = ap (λ (x : Geometry). driveOf m x a) h ∙ q ∙ ap At j in
+          record { valid = p; header = h; found = f; frame = valid-framed m g p h; inside = drive-inside m g a t f .0 }
+
+  -- where it refuses, a decision that begins with calls 1 and 2 does, whatever follows
+  pub called-refused : (x : Answer) (d : Decision) → calledOf m a ≡ Refused x → Stop 1 Dash x ≡ first Stop (calls m a) d
+  unfolding calledOf
+  called-refused x d e = pick (validImage m) (driveOf m (geometryOf m) a) e
+    where
+      pick : (v : Bool) (f : Found)
+          → first refused (rule 1 Dash (not v) BadImage ∷ rule 1 Dash (isNothing f) NoTarget ∷ []) (Drive (geometryOf m) (index f)) ≡ Refused x
+          → Stop 1 Dash x ≡ first Stop (rule 1 Dash (not v) BadImage ∷ rule 1 Dash (isNothing f) NoTarget ∷ []) d
+      pick false f e = let h : x ≡ BadImage = cc in rw h
+      pick true Nothing e = let h : x ≡ NoTarget = cc in rw h
+      pick true (At i) e = let z : _≡_ {A = ℕ} 0 1 = cc in absurd (omega arith)

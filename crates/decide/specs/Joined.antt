@@ -1,0 +1,109 @@
+-- The stages join to the list of checks. Assumes nothing.
+use Prim.Native.Nat.{ℕ}
+use mathlib.Core.Bool.{true, false}
+use mathlib.Core.List.{List}
+use mathlib.Core.Path.{_≡_, refl, sym, ap, _∙_}
+use mathlib.Core.Logic.{⊎-elim}
+use lib.Bits.{bitAnd}
+use lib.Dec.{eqb}
+use lib.ListN.{length, getD}
+use borrow.Author.Tests.{eq-eqb, ne-eqb}
+use Rattle.rules.specs.declared.Found.the-variants.{At}
+use Rattle.rules.specs.Cases.{either}
+use Rattle.geometry.specs.declared.Geometry.{Geometry}
+use Rattle.geometry.specs.Header.{geometryOf}
+use Rattle.drives.specs.Table.{driveOf, failed}
+use Rattle.sense.specs.declared.Answer.the-variants.{TargetFailed, BadField}
+use Rattle.command.specs.declared.Op.{Op}
+use Rattle.command.specs.declared.Op.the-variants.{XdWrite, XpWrite, XdRead, Rebuild, Regenerate, Read, Write, Unknown}
+use Rattle.command.specs.declared.Command.{Command}
+use Rattle.command.specs.Command.{opOf, sizeOf, zeroBits, commandOf, sixteenOf, tenOf, listedOf, secOf, ownOf, resolvedOf}
+use Rattle.meaning.specs.declared.Seen.the-variants.{Cdb, Drive}
+use Rattle.meaning.specs.declared.Decision.the-variants.{Stop}
+use Rattle.meaning.specs.Checks.{decideOf}
+use Rattle.single.specs.Stages.{roomyOf, plainOf, readOf, writeOf, xpwriteOf, xdreadOf, matchedOf, answeredOf}
+use Rattle.double.specs.Stages.{retainedOf, secondedOf, reachedOf, settledOf, limitedOf, xdwriteOf}
+use Rattle.several.specs.Stages.{faultOr, rebuiltOf, gatheredOf, regeneratedOf, placedOf, lengthOf, ownedOf, headedOf, countedOf, fieldsOf, rebuildOf, regenerateOf}
+use Rattle.several.specs.Stages.{listedOf as listStage}
+use Rattle.decide.specs.Called.{Target}
+use Rattle.decide.specs.Stages.{eachOf, flaggedOf, checkedOf, sizedOf, openedOf}
+
+-- ---- each command's stages are its list of checks
+
+module _ (m : List ℕ) (g : Geometry) (t : ℕ) (k : Command) (s : List ℕ) (r : ℕ) where
+  as-xdwrite : flaggedOf XdWrite m g t k s r ≡ checkedOf XdWrite m g t k s r
+  unfolding flaggedOf checkedOf xdwriteOf limitedOf settledOf retainedOf reachedOf secondedOf
+  as-xdwrite = ⊎-elim (λ e. rw e) (λ e. rw e) (either (eqb (secOf k) 3))
+
+  as-rebuild : flaggedOf Rebuild m g t k s r ≡ checkedOf Rebuild m g t k s r
+  unfolding flaggedOf checkedOf rebuildOf fieldsOf countedOf listStage headedOf ownedOf lengthOf placedOf rebuiltOf faultOr resolvedOf ownOf
+  as-rebuild = refl
+
+  as-regenerate : flaggedOf Regenerate m g t k s r ≡ checkedOf Regenerate m g t k s r
+  unfolding flaggedOf checkedOf regenerateOf fieldsOf countedOf listStage headedOf ownedOf lengthOf placedOf regeneratedOf gatheredOf faultOr resolvedOf ownOf
+  as-regenerate = refl
+
+  pub joined : (o : Op) → (sizeOf o ≡ 0 → ⊥) → flaggedOf o m g t k s r ≡ checkedOf o m g t k s r
+  unfolding flaggedOf checkedOf readOf writeOf xpwriteOf plainOf roomyOf xdreadOf matchedOf answeredOf
+  joined XdWrite h = as-xdwrite
+  joined XpWrite h = refl
+  joined XdRead h = refl
+  joined Rebuild h = as-rebuild
+  joined Regenerate h = as-regenerate
+  joined Read h = refl
+  joined Write h = refl
+  joined Unknown h = absurd (h refl)
+
+-- ---- where the tests of a stage have passed
+
+module _ (m : List ℕ) (g : Geometry) (t : ℕ) (k : Command) (s : List ℕ) (r : ℕ) (o : Op) where
+  -- the code is told
+  pub told : (o′ : Op) → o ≡ o′ → eachOf o′ m g t k s r ≡ eachOf o m g t k s r
+  told o′ e = rw e
+
+  module _ (bits : ℕ) (e : bits ≡ zeroBits o) where
+    pub flags-bad : (bitAnd (k .flags) bits ≡ 0 → ⊥) → Stop 4 (Cdb 1) BadField ≡ flaggedOf o m g t k s r
+    unfolding flaggedOf
+    flags-bad h = rw (ne-eqb (bitAnd (k .flags) (zeroBits o)) 0 (λ q. h (ap (bitAnd (k .flags)) e ∙ q)))
+
+    pub flags-on : bitAnd (k .flags) bits ≡ 0 → eachOf o m g t k s r ≡ flaggedOf o m g t k s r
+    unfolding flaggedOf
+    flags-on h = rw (eq-eqb (bitAnd (k .flags) (zeroBits o)) 0 (ap (bitAnd (k .flags)) (sym e) ∙ h))
+
+-- a decoded command knows its code
+op-is : (o : Op) (c : List ℕ) → commandOf o c .op ≡ o
+unfolding sixteenOf tenOf listedOf
+op-is XdWrite c = refl
+op-is XpWrite c = refl
+op-is XdRead c = refl
+op-is Rebuild c = refl
+op-is Regenerate c = refl
+op-is Read c = refl
+op-is Write c = refl
+op-is Unknown c = refl
+
+module _ (m : List ℕ) (g : Geometry) (t : ℕ) (c s : List ℕ) (r : ℕ) where
+  pub sized-failed : (o : Op) → (sizeOf o ≡ 0 → ⊥) → length c ≡ sizeOf o → failed m g t ≡ true
+      → Stop 3 (Drive t) TargetFailed ≡ sizedOf o m g t c s r
+  unfolding sizedOf
+  sized-failed o z l f = rw (ne-eqb (sizeOf o) 0 z, eq-eqb (length c) (sizeOf o) l, f)
+
+  pub sized-on : (o : Op) (k : Command) → k ≡ commandOf o c → (sizeOf o ≡ 0 → ⊥) → length c ≡ sizeOf o → failed m g t ≡ false
+      → flaggedOf (k .op) m g t k s r ≡ sizedOf o m g t c s r
+  unfolding sizedOf
+  sized-on o k e z l f =
+      let p : k .op ≡ o = ap (λ (x : Command). x .op) e ∙ op-is o c in
+      ap (λ (x : Op). flaggedOf x m g t k s r) p
+      ∙ joined m g t k s r o z
+      ∙ ap (λ (x : Command). checkedOf o m g t x s r) e
+      ∙ sym (rw (ne-eqb (sizeOf o) 0 z, eq-eqb (length c) (sizeOf o) l, f))
+
+  pub opened-on : (o : Op) (b : ℕ) → b ≡ getD c 0 0 → o ≡ opOf b → (length c ≡ 0 → ⊥) → sizedOf o m g t c s r ≡ openedOf m g t c s r
+  unfolding openedOf
+  opened-on o b e h z = rw (h, e, ne-eqb (length c) 0 z)
+
+  pub decide-on : (a : ℕ) → Target m a g t → openedOf m g t c s r ≡ decideOf m a c s r
+  unfolding decideOf openedOf sizedOf checkedOf
+  decide-on a x =
+      let f : driveOf m (geometryOf m) a ≡ At t = ap (λ (y : Geometry). driveOf m y a) (sym (x .header)) ∙ x .found in
+      ap (λ (y : Geometry). openedOf m y t c s r) (x .header) ∙ rw (x .valid, f)

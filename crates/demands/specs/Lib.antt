@@ -1,0 +1,7 @@
+pub mod Leaves
+pub mod Gathered
+pub mod Valid
+pub mod Beside
+pub mod Retained
+pub mod Calls
+pub mod Step

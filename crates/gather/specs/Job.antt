@@ -1,0 +1,62 @@
+-- What a job leaves, and what it needs. Assumes nothing.
+use Prim.Native.Nat.{ℕ, _+_, _*_, _≤_, _<_}
+use mathlib.Core.Path.{_≡_}
+use mathlib.Core.Bool.{true, false, cond}
+use mathlib.Core.Logic.{_⊎_}
+use mathlib.Core.List.{List, []}
+use lib.Dec.{eqb}
+use lib.ListN.{length}
+use Rattle.octets.specs.Part.{part}
+use Rattle.octets.specs.Xor.{_⊻_}
+use Rattle.geometry.specs.declared.Geometry.{Geometry}
+use Rattle.geometry.specs.Header.{place}
+use Rattle.geometry.specs.Frame.{Framed}
+use Rattle.drives.specs.Table.{driveOf}
+use Rattle.command.specs.declared.Source.{Source}
+use Rattle.command.specs.Command.{sourceOf}
+use Rattle.meaning.specs.Acts.{index, gathered}
+use Rattle.gather.specs.declared.Job.{Job}
+
+-- how many bytes each operand has
+abbrev pub size : Geometry → Job → ℕ
+size g j = j .count * g .l
+
+-- the XOR of all operands: with own the target's own blocks (REGENERATE) are one
+unfoldable pub summed : List ℕ → Geometry → List ℕ → Job → List ℕ
+summed s g sent j = cond (j .own) (part s (j .from) (size g j)) [] ⊻ gathered s g sent (j .count) (j .sources) (j .int)
+
+-- ---- what the code needs
+
+-- the drive that a source names, and where its blocks start
+abbrev pub homeOf : List ℕ → Geometry → Source → ℕ
+homeOf s g x = index (driveOf s g (x .address .0))
+
+abbrev pub startOf : List ℕ → Geometry → Source → ℕ
+startOf s g x = place g (homeOf s g x) (x .block .0)
+
+-- a source names a block of a drive, or a drive's end
+pub record Named (s : List ℕ) (g : Geometry) (x : Source) : Type 0 where
+  pub drive-in : homeOf s g x < g .d
+  pub block-in : x .block .0 ≤ g .b
+
+-- and so does each of the first n entries of a list
+pub record Listed (s : List ℕ) (g : Geometry) (sent : List ℕ) (n : ℕ) : Type 0 where
+  pub frame : Framed s g
+  pub few : n < 256
+  pub long : 8 + 8 * n ≤ length sent
+  pub each : (i : ℕ) → i < n → Named s g (sourceOf sent i)
+
+-- two ranges of n bytes do not meet
+abbrev pub Apart : ℕ → ℕ → ℕ → Type 0
+Apart a b n = (a + n ≤ b) ⊎ (b + n ≤ a)
+
+-- every operand lies in the image, and apart from where the XOR goes
+pub record Ready (s : List ℕ) (g : Geometry) (sent : List ℕ) (j : Job) : Type 0 where
+  pub listed : Listed s g sent (j .sources)
+  pub some-source : 1 ≤ j .sources
+  pub exact : eqb (j .int) 0 ≡ false → length sent ≡ 8 + 8 * j .sources + size g j
+  pub own-in : j .from + size g j ≤ length s
+  pub to-in : j .to + size g j ≤ length s
+  pub own-apart : j .own ≡ true → Apart (j .from) (j .to) (size g j)
+  pub inside : (i : ℕ) → i < j .sources → startOf s g (sourceOf sent i) + size g j ≤ length s
+  pub apart : (i : ℕ) → i < j .sources → Apart (startOf s g (sourceOf sent i)) (j .to) (size g j)

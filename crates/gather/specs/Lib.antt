@@ -1,0 +1,8 @@
+pub mod Parts
+pub mod Job
+pub mod Starts
+pub mod Pieces
+pub mod Steps
+pub mod Turns
+pub mod Length
+pub mod Whole

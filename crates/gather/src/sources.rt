@@ -1,0 +1,45 @@
+// Where the sources of a list lie.
+use command::Source;
+use geometry::Geometry;
+use rules::Found;
+ghost use mathlib.Core.Path.{_≡_};
+ghost use Prim.Native.Nat.{_≤_};
+ghost use lib.ListN.{length};
+ghost use Rattle.geometry.specs.Frame.{Framed};
+ghost use Rattle.meaning.specs.Acts.{index};
+ghost use Rattle.gather.specs.Job.{startOf, Named, Listed};
+ghost use Rattle.gather.specs.Starts.{startsOver};
+
+// Writes where the blocks of each of the first n entries start.
+pub fn find_all(image: &[u8], g: Geometry, sent: &[u8], n: usize, places: &mut [usize])
+    requires { ⌜ Listed (now image) g (now sent) n × (n ≤ length (now places)) ⌝ }
+    ensures { λ _. ⌜ now (places .exit) ≡ startsOver (now (image .entry)) g (now (sent .entry)) (now (places .entry)) n ⌝ }
+{
+    let mut i = 0;
+    while i < n {
+        let x = Source::read(sent, i);
+        places[i] = start(image, g, x);
+        i += 1;
+    }
+}
+
+// Where the source's blocks start.
+fn start(image: &[u8], g: Geometry, x: Source) -> usize
+    requires { ⌜ Framed (now image) g × Named (now image) g x ⌝ }
+    ensures { λ r. ⌜ r ≡ startOf (now (image .entry)) g x ⌝ }
+{
+    g.place(
+        drive_index(drives::find_drive(image, g, x.address)),
+        x.block,
+    )
+}
+
+// The drive that was found; there is one where a source was allowed.
+fn drive_index(found: Found) -> usize
+    ensures { λ r. ⌜ r ≡ index found ⌝ }
+{
+    match found {
+        Found::At(i) => i,
+        Found::Nothing => 0,
+    }
+}

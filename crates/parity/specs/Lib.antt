@@ -1,0 +1,15 @@
+pub mod Ledger
+pub mod Owed
+pub mod Waiting
+pub mod OneAct
+pub mod OneCall
+pub mod Others
+pub mod RebuildBytes
+pub mod AnyStep
+pub mod OldBytes
+pub mod RebuildPasses
+pub mod Restores
+pub mod Demand
+pub mod Example
+pub mod Once
+pub mod ShutOut

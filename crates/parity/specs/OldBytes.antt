@@ -1,0 +1,78 @@
+-- Over adjoining rows whose sums are zero, the XOR of every other drive's blocks is the old bytes of the drive left out. Assumes nothing.
+use Prim.Native.Nat.{ℕ, zero, suc, _+_, _*_, _≤_, _<_}
+use native.Mathlib.Nat.{suc-mul, zero-mul, zero-add}
+use native.Mathlib.Omega.{arith}
+use mathlib.Core.Path.{_≡_, refl, sym, ap, ap₂, _∙_}
+use mathlib.Core.List.{List, [], _∷_, _++_, map, List·Permᴰ}
+use lib.ListN.{length, replicate}
+use Rattle.octets.specs.Part.{part, length-part, part-part, part-add, part-all}
+use Rattle.octets.specs.Operands.{xorAll, Long, length-xorAll, partsOf, part-xorAll}
+use Rattle.geometry.specs.declared.Geometry.{Geometry}
+use Rattle.geometry.specs.Header.{place}
+use Rattle.geometry.specs.Frame.{Framed}
+use Rattle.geometry.specs.Places.{Range, place-on, range-room}
+use Rattle.sums.specs.Laws.{block-inside}
+use Rattle.sums.specs.Row.{blockIn, rowSum}
+use Rattle.sums.specs.Bytes.{length-block}
+use Rattle.parity.specs.Others.{others, Other, EachIs, perm-length, perm-each, others-each, length-others, left-out}
+
+-- two lists of n blocks of l bytes that agree block by block
+module _ (l : ℕ) (xs ys : List ℕ) where
+  fronts : (n : ℕ) → ((k : ℕ) → k < n → part xs (k * l) l ≡ part ys (k * l) l) → part xs 0 (n * l) ≡ part ys 0 (n * l)
+  unfolding part
+  fronts zero h = let e : 0 * l ≡ 0 = zero-mul l in rw e
+  fronts (suc n) h =
+      let e : suc n * l ≡ n * l + l = suc-mul n l in
+      let z : 0 + n * l ≡ n * l = zero-add (n * l) in
+      let cut : (zs : List ℕ) → part zs 0 (suc n * l) ≡ part zs 0 (n * l) ++ part zs (n * l) l =
+      (λ zs. ap (part zs 0) e ∙ part-add zs 0 (n * l) l ∙ ap (λ (k : ℕ). part zs 0 (n * l) ++ part zs k l) z) in
+      cut xs ∙ ap₂ _++_ (fronts n (λ k lk. h k (omega arith))) (h n (omega arith)) ∙ sym (cut ys)
+
+  pub blocks-ext : (n : ℕ) → length xs ≡ n * l → length ys ≡ n * l → ((k : ℕ) → k < n → part xs (k * l) l ≡ part ys (k * l) l) → xs ≡ ys
+  blocks-ext n hx hy h =
+      sym (part-all xs) ∙ ap (part xs 0) hx ∙ fronts n h ∙ ap (part ys 0) (sym hy) ∙ part-all ys
+
+-- drive e's blocks of the n rows from row b on
+abbrev pub rowsOf : List ℕ → Geometry → ℕ → ℕ → ℕ → List ℕ
+rowsOf m g b n e = part m (place g e b) (n * g .l)
+
+module _ (m : List ℕ) (g : Geometry) (f : Framed m g) (b n : ℕ) where
+  abbrev rows : ℕ → List ℕ
+  rows e = rowsOf m g b n e
+
+  row-of : (k : ℕ) → k < n → (e : ℕ) → part (rows e) (k * g .l) (g .l) ≡ blockIn m g (b + k) e
+  row-of k l e =
+      part-part m (place g e b) (n * g .l) (k * g .l) (g .l) (block-inside k n (g .l) l) ∙ ap (λ (q : ℕ). part m q (g .l)) (sym (place-on g e b k))
+
+  parts-are : (k : ℕ) → k < n → (es : List ℕ) → partsOf (k * g .l) (g .l) (map rows es) ≡ map (blockIn m g (b + k)) es
+  unfolding partsOf
+  parts-are k l [] = refl
+  parts-are k l (e ∷ es) = ap₂ (λ (x : List ℕ) (xs : List (List ℕ)). x ∷ xs) (row-of k l e) (parts-are k l es)
+
+  all-of : (k : ℕ) → k < n → (es : List ℕ) → part (xorAll (map rows es)) (k * g .l) (g .l) ≡ xorAll (map (blockIn m g (b + k)) es)
+  all-of k l es = part-xorAll (map rows es) (k * g .l) (g .l) ∙ ap xorAll (parts-are k l es)
+
+  module _ (d : ℕ) (w : Range g d b n) where
+    pub length-rows : (e : ℕ) → e < g .d → length (rows e) ≡ n * g .l
+    length-rows e l = length-part m (place g e b) (n * g .l) (range-room m g e b n f (record { drive-in = l; range-in = w .range-in }))
+
+    long-rows : (es : List ℕ) → EachIs (Other (g .d) d) es → Long (n * g .l) (map rows es)
+    long-rows [] h = tt
+    long-rows (e ∷ es) h = (length-rows e (h .0 .0), long-rows es (h .1))
+
+    length-xor-rows : (es : List ℕ) → List·Permᴰ es (others (g .d) d) → EachIs (Other (g .d) d) es → length (xorAll (map rows es)) ≡ n * g .l
+    length-xor-rows [] p h =
+        let z : _≡_ {A = ℕ} 0 (length (others (g .d) d)) = perm-length p in
+        absurd (omega (arith, length-others (g .d) d (w .drive-in), f .placed .ranges .d-low))
+    length-xor-rows (e ∷ es) p h = length-xorAll (n * g .l) (rows e) (map rows es) (long-rows (e ∷ es) h)
+
+    pub old-bytes : (es : List ℕ) → List·Permᴰ es (others (g .d) d) → ((r : ℕ) → b ≤ r → r < b + n → rowSum m g r ≡ replicate (g .l) 0)
+        → xorAll (map rows es) ≡ rows d
+    old-bytes es p zero-sums =
+        let lx = length-xor-rows es p (perm-each (Other (g .d) d) p (others-each (g .d) d)) in
+        blocks-ext (g .l) (xorAll (map rows es)) (rows d) n lx (length-rows d (w .drive-in))
+        (λ k l. let la : length (part (xorAll (map rows es)) (k * g .l) (g .l)) ≡ g .l = length-part (xorAll (map rows es)) (k * g .l) (g .l) (omega (arith, block-inside k n (g .l) l)) in
+        all-of k l es
+        ∙ left-out m g (b + k) d es (w .drive-in) p (zero-sums (b + k) (omega arith) (omega arith))
+        (length-block m g (b + k) f (omega (arith, w .range-in)) d (w .drive-in)) (sym (ap length (all-of k l es)) ∙ la)
+        ∙ sym (row-of k l d))

@@ -1,0 +1,96 @@
+-- The bench shelf: two results with the same bytes, both owed while the row's sum is zero; each is carried once. Assumes nothing.
+use mathlib.Core.Bool.{true, false≢true}
+use mathlib.Core.Path.{_≡_, refl, sym, ap, _∙_}
+use mathlib.Core.Logic.{⊎-elim}
+use mathlib.Core.List.{List, [], _∷_, _++_, List·Memᴰ, List·Memᴰ·head, List·Memᴰ·tail, List·Memᴰ·not-nil, List·Memᴰ·cases-cons}
+use Rattle.octets.specs.Part.{part}
+use Rattle.octets.specs.Put.{put}
+use Rattle.octets.specs.Xor.{_⊻_}
+use Rattle.octets.specs.Operands.{xorAll}
+use Rattle.octets.specs.Number.{num, toBe}
+use Rattle.rules.specs.Every.{every}
+use Rattle.rules.specs.All.{allBelow}
+use Rattle.rules.specs.Count.{countBelow}
+use Rattle.rules.specs.Least.{leastBelow}
+use Rattle.geometry.specs.Header.{rangesOk, offsetsOk, framedOk, slotAt, place}
+use Rattle.drives.specs.Table.{statesOk, newAddress, addressesOk, tableOk, driveOf}
+use Rattle.slots.specs.Record.{slotOf, bytesOf}
+use Rattle.slots.specs.Slots.{slotOk, eachOk, ranksOk, slotsOk}
+use Rattle.slots.specs.Find.{emptySlot, better, bestOf, newestOf}
+use Rattle.slots.specs.Change.{released, lowerOne, lowered}
+use Rattle.results.specs.Lists.{keeping}
+use Rattle.image.specs.Valid.{validImage}
+use Rattle.image.specs.Bench.{bench}
+use Rattle.sums.specs.Row.{summedTo, rowSum}
+use Rattle.sums.specs.Share.{share}
+use Rattle.command.specs.Command.{opOf, sixteenOf, tenOf}
+use Rattle.meaning.specs.declared.Span.{Span}
+use Rattle.meaning.specs.Checks.{decideOf}
+use Rattle.meaning.specs.Step.{stepImage}
+use Rattle.meaning.specs.Calls.{Call, command, afterCalls}
+use Rattle.meaning.specs.Cases.{zeros, one, fresh, result, xdwrite, ten, room}
+use Rattle.parity.specs.Ledger.{Fate, Read, Carried, Line, line, isRead, Carries, Fair, ledger}
+use Rattle.parity.specs.Owed.{owed}
+use Rattle.parity.specs.Example.{benchShape, ofFirst}
+
+-- drive 1 gets new data and then its old block back; both results are read
+abbrev pub twice : List Call
+twice =
+    command 1 (xdwrite 0x06) fresh room
+    ∷ command 1 (ten 0xC2 0 1) [] room
+    ∷ command 1 (xdwrite 0x06) one room
+    ∷ command 1 (ten 0xC2 0 1) [] room
+    ∷ []
+
+-- the result, to drive 3
+abbrev pub carry : Call
+carry = command 3 (ten 0xC1 0 1) result room
+
+abbrev pub pair : Fate → Fate → List Line
+pair newer older = line (ofFirst result) true newer ∷ line (ofFirst result) true older ∷ []
+
+-- what is owed cancels, and is owed all the same; one is carried, and then the other
+pub twice-computed :
+    (ledger twice bench ≡ pair Read Read)
+    × (owed benchShape 0 (pair Read Read) ≡ zeros)
+    × (rowSum (afterCalls twice bench) benchShape 0 ≡ zeros)
+    × (ledger (twice ++ carry ∷ []) bench ≡ pair Carried Read)
+    × (rowSum (afterCalls (twice ++ carry ∷ []) bench) benchShape 0 ≡ result)
+    × (ledger (twice ++ carry ∷ carry ∷ []) bench ≡ pair Carried Carried)
+    × (rowSum (afterCalls (twice ++ carry ∷ carry ∷ []) bench) benchShape 0 ≡ zeros)
+unfolding decideOf stepImage validImage framedOk rangesOk offsetsOk tableOk statesOk newAddress addressesOk slotsOk eachOk ranksOk slotOk slotOf slotAt place every allBelow countBelow leastBelow driveOf emptySlot newestOf bestOf better released lowered lowerOne bytesOf part put num toBe _⊻_ xorAll opOf sixteenOf tenOf rowSum summedTo owed keeping share
+twice-computed = (refl, refl, refl, refl, refl, refl, refl)
+
+-- block 0 of drive 3
+abbrev third : Span
+third = record { drive = 2; block = record { 0 = 0 }; count = 1 }
+
+-- a line that is read can be carried
+carries : (es : List Line) → List·Memᴰ (line (ofFirst result) true Read) es → Carries es third result
+carries es m =
+    record {
+      one = line (ofFirst result) true Read;
+      listed = m;
+      owed = refl;
+      read = refl;
+      same-block = refl;
+      same-len = refl;
+      same-bytes = refl;
+    }
+
+pub twice-fair : Fair (twice ++ carry ∷ carry ∷ []) bench
+unfolding decideOf stepImage validImage framedOk rangesOk offsetsOk tableOk statesOk newAddress addressesOk slotsOk eachOk ranksOk slotOk slotOf slotAt place every allBelow countBelow leastBelow driveOf emptySlot newestOf bestOf better released lowered lowerOne bytesOf part put num toBe _⊻_ xorAll opOf sixteenOf tenOf
+twice-fair =
+    ((λ e. refl), (tt, ((λ e. refl), (tt, (carries (pair Read Read) (List·Memᴰ·head refl), (carries (pair Carried Read) (List·Memᴰ·tail (List·Memᴰ·head refl)), tt))))))
+
+-- a third time there is nothing to carry
+spent : Carries (pair Carried Carried) third result → ⊥
+spent c =
+    let not-read : (e : Line) → e .fate ≡ Carried → c .one ≡ e → ⊥ = (λ e k q. false≢true (sym (ap isRead (ap (λ (x : Line). x .fate) q ∙ k)) ∙ ap isRead (c .read))) in
+    ⊎-elim (not-read _ refl)
+    (λ m. ⊎-elim (not-read _ refl) (λ k. List·Memᴰ·not-nil k) (List·Memᴰ·cases-cons m))
+    (List·Memᴰ·cases-cons (c .listed))
+
+pub thrice-not : Fair (twice ++ carry ∷ carry ∷ carry ∷ []) bench → ⊥
+unfolding decideOf stepImage validImage framedOk rangesOk offsetsOk tableOk statesOk newAddress addressesOk slotsOk eachOk ranksOk slotOk slotOf slotAt place every allBelow countBelow leastBelow driveOf emptySlot newestOf bestOf better released lowered lowerOne bytesOf part put num toBe _⊻_ xorAll opOf sixteenOf tenOf
+thrice-not f = spent (f .1 .1 .1 .1 .1 .1 .0)

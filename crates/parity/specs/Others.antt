@@ -1,0 +1,121 @@
+-- Every other drive once: where a row's sum is zero, the XOR of their blocks is the block of the one left out. Assumes nothing.
+use Prim.Native.Nat.{ℕ, zero, suc, _≤_, _<_}
+use native.Mathlib.Nat.{not-suc-le-zero}
+use native.Mathlib.Omega.{arith}
+use mathlib.Core.Bool.{true, false, cond}
+use mathlib.Core.Path.{_≡_, refl, sym, ap, ap₂, subst, _∙_}
+use mathlib.Core.Logic.{⊎-elim}
+use mathlib.Core.List.{List, [], _∷_, map, List·Permᴰ, List·Permᴰ·nil, List·Permᴰ·cons, List·Permᴰ·swap, List·Permᴰ·trans}
+use lib.Dec.{eqb}
+use lib.ListN.{length, getD, replicate}
+use borrow.Author.Tests.{eq-eqb, ne-eqb, eqb-false}
+use Rattle.octets.specs.Xor.{_⊻_, xor-commutes, xor-swaps, xor-cancels, zeros-xor}
+use Rattle.octets.specs.Operands.{xorAll, xorAll-perm}
+use Rattle.rules.specs.Cases.{either, last-or-below}
+use Rattle.geometry.specs.declared.Geometry.{Geometry}
+use Rattle.sums.specs.Row.{blockIn, summedTo, rowSum}
+
+-- the drives below n but drive d
+abbrev pub others : ℕ → ℕ → List ℕ
+others zero d = []
+others (suc n) d = cond (eqb n d) (others n d) (n ∷ others n d)
+
+-- ---- lists in another order
+
+module _ {A : Type 0} where
+  perm-map : {B : Type 0} (f : A → B) {xs ys : List A} → List·Permᴰ xs ys → List·Permᴰ (map f xs) (map f ys)
+  perm-map f List·Permᴰ·nil = List·Permᴰ·nil
+  perm-map f (List·Permᴰ·cons e p) = List·Permᴰ·cons (ap f e) (perm-map f p)
+  perm-map f (List·Permᴰ·swap d e) = List·Permᴰ·swap (ap f d) (ap f e)
+  perm-map f (List·Permᴰ·trans p q) = List·Permᴰ·trans (perm-map f p) (perm-map f q)
+
+  pub perm-length : {xs ys : List A} → List·Permᴰ xs ys → length xs ≡ length ys
+  perm-length List·Permᴰ·nil = refl
+  perm-length (List·Permᴰ·cons e p) = ap suc (perm-length p)
+  perm-length (List·Permᴰ·swap d e) = refl
+  perm-length (List·Permᴰ·trans p q) = perm-length p ∙ perm-length q
+
+  -- each element has P
+  abbrev pub EachIs : (A → Type 0) → List A → Type 0
+  EachIs P [] = Unit {0}
+  EachIs P (x ∷ xs) = P x × EachIs P xs
+
+  pub perm-each : (P : A → Type 0) {xs ys : List A} → List·Permᴰ xs ys → EachIs P ys → EachIs P xs
+  perm-each P List·Permᴰ·nil h = tt
+  perm-each P (List·Permᴰ·cons e p) h = (subst P (sym e) (h .0), perm-each P p (h .1))
+  perm-each P (List·Permᴰ·swap d e) h = (subst P (sym d) (h .1 .0), (subst P (sym e) (h .0), h .1 .1))
+  perm-each P (List·Permᴰ·trans p q) h = perm-each P p (perm-each P q h)
+
+  pub each-at : (P : A → Type 0) (xs : List A) (x : A) → EachIs P xs → (i : ℕ) → i < length xs → P (getD xs i x)
+  each-at P [] x h i l = absurd (not-suc-le-zero l)
+  each-at P (y ∷ ys) x h zero l = h .0
+  each-at P (y ∷ ys) x h (suc i) l = each-at P ys x (h .1) i (omega arith)
+
+  pub map-each : {B : Type 0} (f k : A → B) (P : A → Type 0) → ((x : A) → P x → f x ≡ k x) → (xs : List A) → EachIs P xs → map f xs ≡ map k xs
+  map-each f k P e [] h = refl
+  map-each {B} f k P e (x ∷ xs) h = ap₂ (λ (y : B) (r : List B). y ∷ r) (e x (h .0)) (map-each f k P e xs (h .1))
+
+-- ---- the others
+
+-- another drive of a shelf of n
+abbrev pub Other : ℕ → ℕ → ℕ → Type 0
+Other n d e = (e < n) × (e ≡ d → ⊥)
+
+each-more : (n d : ℕ) (xs : List ℕ) → EachIs (Other n d) xs → EachIs (Other (suc n) d) xs
+each-more n d [] h = tt
+each-more n d (x ∷ xs) h = ((omega (arith, h .0 .0), h .0 .1), each-more n d xs (h .1))
+
+pub others-each : (n d : ℕ) → EachIs (Other n d) (others n d)
+others-each zero d = tt
+others-each (suc n) d =
+    let rest = each-more n d (others n d) (others-each n d) in
+    ⊎-elim (λ (t : eqb n d ≡ true). rw t rest) (λ (t : eqb n d ≡ false). rw t ((omega arith, eqb-false n d t), rest)) (either (eqb n d))
+
+length-all : (n d : ℕ) → n ≤ d → length (others n d) ≡ n
+length-all zero d l = refl
+length-all (suc n) d l = rw (ne-eqb n d (λ q. omega arith)) (ap suc (length-all n d (omega arith)))
+
+pub length-others : (n d : ℕ) → d < n → suc (length (others n d)) ≡ n
+length-others zero d l = absurd (not-suc-le-zero l)
+length-others (suc n) d l =
+    ⊎-elim (λ (q : d ≡ n). rw (eq-eqb n d (sym q)) (ap suc (length-all n d (omega arith))))
+    (λ (h : d < n). rw (ne-eqb n d (λ q. omega arith)) (ap suc (length-others n d h)))
+    (last-or-below l)
+
+-- ---- the XOR of the others' blocks
+
+module _ (s : List ℕ) (g : Geometry) (r : ℕ) where
+  abbrev all : List ℕ → List ℕ
+  all es = xorAll (map (blockIn s g r) es)
+
+  below : (n d : ℕ) → n ≤ d → summedTo s g r n ≡ all (others n d)
+  unfolding summedTo xorAll
+  below zero d l = refl
+  below (suc n) d l =
+      rw (ne-eqb n d (λ q. omega arith))
+      (ap (λ (o : List ℕ). o ⊻ blockIn s g r n) (below n d (omega arith)) ∙ xor-commutes (all (others n d)) (blockIn s g r n))
+
+  above : (n d : ℕ) → d < n → summedTo s g r n ≡ all (others n d) ⊻ blockIn s g r d
+  unfolding summedTo xorAll
+  above zero d l = absurd (not-suc-le-zero l)
+  above (suc n) d l =
+      ⊎-elim
+      (λ (q : d ≡ n). rw (eq-eqb n d (sym q)) (ap₂ _⊻_ (below n d (omega arith)) (ap (blockIn s g r) (sym q))))
+      (λ (h : d < n). rw (ne-eqb n d (λ q. omega arith))
+      (ap (λ (o : List ℕ). o ⊻ blockIn s g r n) (above n d h)
+      ∙ xor-swaps (all (others n d)) (blockIn s g r d) (blockIn s g r n)
+      ∙ ap (λ (o : List ℕ). o ⊻ blockIn s g r d) (xor-commutes (all (others n d)) (blockIn s g r n))))
+      (last-or-below l)
+
+  sum-split : (d : ℕ) → d < g .d → rowSum s g r ≡ all (others (g .d) d) ⊻ blockIn s g r d
+  unfolding rowSum
+  sum-split d l = above (g .d) d l
+
+  -- a zero sum, every other drive once in any order
+  pub left-out : (d : ℕ) (es : List ℕ) → d < g .d → List·Permᴰ es (others (g .d) d) → rowSum s g r ≡ replicate (g .l) 0
+      → length (blockIn s g r d) ≡ g .l → length (all es) ≡ g .l → all es ≡ blockIn s g r d
+  left-out d es l p z lb la =
+      let e : all es ≡ all (others (g .d) d) = xorAll-perm (perm-map (blockIn s g r) p) in
+      sym (xor-cancels (all es) (blockIn s g r d) (omega arith))
+      ∙ ap (λ (o : List ℕ). o ⊻ blockIn s g r d) (ap (λ (o : List ℕ). o ⊻ blockIn s g r d) e ∙ sym (sum-split d l) ∙ z)
+      ∙ zeros-xor (blockIn s g r d) (g .l) (omega arith)

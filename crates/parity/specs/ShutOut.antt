@@ -1,0 +1,206 @@
+-- Steps that demand 3 shuts out. Assumes nothing.
+use Prim.Native.Nat.{ℕ, zero, suc, _-_}
+use native.Mathlib.Omega.{arith}
+use mathlib.Core.Path.{_≡_, refl, sym, ap, _∙_}
+use mathlib.Core.List.{List, [], _∷_, List·Memᴰ·not-nil}
+use lib.Dec.{eqb, lit≤}
+use lib.ListN.{getD}
+use Rattle.octets.specs.Part.{part}
+use Rattle.octets.specs.Put.{put}
+use Rattle.octets.specs.Octets.{Octets}
+use Rattle.octets.specs.Xor.{_⊻_}
+use Rattle.octets.specs.Operands.{xorAll}
+use Rattle.octets.specs.Number.{num, toBe}
+use Rattle.rules.specs.Every.{every}
+use Rattle.rules.specs.All.{allBelow}
+use Rattle.rules.specs.Count.{countBelow}
+use Rattle.rules.specs.Least.{leastBelow}
+use Rattle.geometry.specs.declared.Geometry.{Geometry}
+use Rattle.geometry.specs.Header.{geometryOf, rangesOk, offsetsOk, framedOk, slotAt, place}
+use Rattle.drives.specs.Table.{statesOk, newAddress, addressesOk, tableOk, driveOf}
+use Rattle.slots.specs.Record.{slotOf, bytesOf}
+use Rattle.slots.specs.Slots.{slotOk, eachOk, ranksOk, slotsOk}
+use Rattle.slots.specs.Find.{emptySlot, better, bestOf, newestOf}
+use Rattle.slots.specs.Change.{released, lowerOne, lowered}
+use Rattle.results.specs.Lists.{keeping}
+use Rattle.results.specs.Results.{results}
+use Rattle.results.specs.Ages.{agesTo, slotRanked}
+use Rattle.image.specs.Valid.{validImage}
+use Rattle.image.specs.Bench.{bench}
+use Rattle.sums.specs.Row.{summedTo, rowSum}
+use Rattle.sums.specs.Share.{share}
+use Rattle.sense.specs.declared.Answer.{Answer}
+use Rattle.sense.specs.declared.Answer.the-variants.{Good}
+use Rattle.command.specs.Command.{opOf, sixteenOf, tenOf, listedOf, ownOf, resolvedOf, listBytes, sourceOf}
+use Rattle.meaning.specs.declared.Span.{Span}
+use Rattle.meaning.specs.declared.Act.{Act}
+use Rattle.meaning.specs.declared.Act.the-variants.{Read as ToRead, Write, XpWrite, XdRead, Couple, Retain, Rebuild, Regenerate}
+use Rattle.meaning.specs.declared.Decision.{Decision}
+use Rattle.meaning.specs.declared.Decision.the-variants.{Stop, Go}
+use Rattle.meaning.specs.Acts.{spanAt, blocksOf, passedOn, sourcesFrom, gathered, leaves}
+use Rattle.meaning.specs.Sources.{ownEntry, driveBad, entryBad, firstBad}
+use Rattle.meaning.specs.Checks.{decideOf}
+use Rattle.meaning.specs.Step.{decided, stepOutcome}
+use Rattle.meaning.specs.Calls.{Call, command}
+use Rattle.meaning.specs.Cases.{shelfOf, vacant, zeros, two, fresh, result, xdwrite, ten, room}
+use Rattle.parity.specs.Owed.{owed}
+use Rattle.parity.specs.AnyStep.{AnyStep, done, callBy, Start, SumsDiffer, ZeroSums, AllPresent, Whole, Restores}
+use Rattle.parity.specs.Example.{benchShape, bench-start, small-octets, bench-zero, carried, junk, both-rows}
+
+-- ---- two images to try a step on
+
+-- the bench shelf, and one with other blocks
+abbrev pub spare : List ℕ
+spare = shelfOf 0 vacant zeros two two
+
+-- an image with nothing retained and zero sums, before any call
+at-once : (m : List ℕ) → Start m benchShape → Octets m → ZeroSums m benchShape 0 2 → AllPresent m benchShape
+    → (after : Call → List ℕ → List ℕ) → Whole after m benchShape [] 0 2
+at-once m start bytes z up after =
+    record {
+      start = start;
+      bytes = bytes;
+      fair = tt;
+      began-zero = z;
+      nothing-owed = λ e k. absurd (List·Memᴰ·not-nil k);
+      all-present = up;
+    }
+
+present : (m : List ℕ) → getD m 32 0 ≡ 0 → getD m 36 0 ≡ 0 → getD m 40 0 ≡ 0 → AllPresent m benchShape
+present m a b c zero l = ap (λ (x : ℕ). eqb x 1) a
+present m a b c (suc zero) l = ap (λ (x : ℕ). eqb x 1) b
+present m a b c (suc (suc zero)) l = ap (λ (x : ℕ). eqb x 1) c
+present m a b c (suc (suc (suc e))) l = absurd (omega arith)
+
+on-bench : (after : Call → List ℕ → List ℕ) → Whole after bench benchShape [] 0 2
+on-bench = at-once bench bench-start (small-octets bench refl) bench-zero (present bench refl refl refl)
+
+spare-start : Start spare benchShape
+unfolding validImage framedOk rangesOk offsetsOk tableOk statesOk newAddress addressesOk slotsOk eachOk ranksOk slotOk slotOf slotAt every allBelow countBelow part num results agesTo slotRanked leastBelow
+spare-start = record { valid = record { header = refl; framed-ok = refl; table-ok = refl; slots-ok = refl }; nothing-retained = refl }
+
+spare-zero : ZeroSums spare benchShape 0 2
+unfolding rowSum summedTo place part _⊻_
+spare-zero zero lo hi = refl
+spare-zero (suc zero) lo hi = refl
+spare-zero (suc (suc r)) lo hi = absurd (omega arith)
+
+on-spare : (after : Call → List ℕ → List ℕ) → Whole after spare benchShape [] 0 2
+on-spare = at-once spare spare-start (small-octets spare refl) spare-zero (present spare refl refl refl)
+
+-- ---- steps that do not do the work
+
+-- one that refuses everything
+pub refusing-not : (step : AnyStep) → ((m : List ℕ) (a : ℕ) (c s r : List ℕ) → step m a c s r .answer ≡ Good → ⊥) → Restores (callBy step) step → ⊥
+refusing-not step never h = never _ _ _ _ _ (h bench benchShape [] 1 0 2 junk (0 ∷ 2 ∷ []) 2 0xFFFFFFFF (on-bench (callBy step)) both-rows room .good)
+
+-- one that always answers GOOD and leaves the same bytes
+abbrev pub constant : List ℕ → AnyStep
+constant k m a c s r = done k Good
+
+pub constant-not : (k : List ℕ) → Restores (callBy (constant k)) (constant k) → ⊥
+constant-not k h =
+    let x = h bench benchShape [] 1 0 2 junk (0 ∷ 2 ∷ []) 2 0xFFFFFFFF (on-bench (callBy (constant k))) both-rows room .back in
+    let y = h spare benchShape [] 1 0 2 junk (0 ∷ 2 ∷ []) 2 0xFFFFFFFF (on-spare (callBy (constant k))) both-rows room .back in
+    let z : _≡_ {A = ℕ} 10 0 = ap (λ (l : List ℕ). getD l 68 0) (sym x ∙ y) in
+    omega arith
+
+-- one that does nothing, whatever it answers
+abbrev pub idling : (List ℕ → ℕ → List ℕ → List ℕ → List ℕ → Answer) → AnyStep
+idling answer m a c s r = done m (answer m a c s r)
+
+pub idling-not : (answer : List ℕ → ℕ → List ℕ → List ℕ → List ℕ → Answer) → Restores (callBy (idling answer)) (idling answer) → ⊥
+unfolding put place
+idling-not answer h =
+    let x = h bench benchShape [] 1 0 2 junk (0 ∷ 2 ∷ []) 2 0xFFFFFFFF (on-bench (callBy (idling answer))) both-rows room .back in
+    let z : _≡_ {A = ℕ} 255 1 = ap (λ (l : List ℕ). getD l 76 0) x in
+    omega arith
+
+-- ---- steps that decide rightly and act wrongly
+
+abbrev pub Acting : Type 0
+Acting = List ℕ → Geometry → List ℕ → Act → List ℕ
+
+abbrev leftBy : Acting → Decision → List ℕ → List ℕ → List ℕ
+leftBy f (Stop n w x) m s = m
+leftBy f (Go act x) m s = f m (geometryOf m) s act
+
+abbrev pub actingBy : Acting → AnyStep
+actingBy f m a c s r = done (leftBy f (decided m a c s r) m s) (stepOutcome m a c s r .answer)
+
+-- another REBUILD, coupled write or XPWRITE; what the others leave is y
+abbrev onRebuild : (Span → ℕ → ℕ → List ℕ) → List ℕ → Act → List ℕ
+onRebuild f y (ToRead x) = y
+onRebuild f y (Write x) = y
+onRebuild f y (XpWrite x) = y
+onRebuild f y (XdRead x i) = y
+onRebuild f y (Couple x z mirror) = y
+onRebuild f y (Retain x i mirror ndisc) = y
+onRebuild f y (Rebuild x n int) = f x n int
+onRebuild f y (Regenerate x n int i) = y
+
+abbrev onCouple : (Span → Span → ℕ → List ℕ) → List ℕ → Act → List ℕ
+onCouple f y (ToRead x) = y
+onCouple f y (Write x) = y
+onCouple f y (XpWrite x) = y
+onCouple f y (XdRead x i) = y
+onCouple f y (Couple x z mirror) = f x z mirror
+onCouple f y (Retain x i mirror ndisc) = y
+onCouple f y (Rebuild x n int) = y
+onCouple f y (Regenerate x n int i) = y
+
+abbrev onXpWrite : (Span → List ℕ) → List ℕ → Act → List ℕ
+onXpWrite f y (ToRead x) = y
+onXpWrite f y (Write x) = y
+onXpWrite f y (XpWrite x) = f x
+onXpWrite f y (XdRead x i) = y
+onXpWrite f y (Couple x z mirror) = y
+onXpWrite f y (Retain x i mirror ndisc) = y
+onXpWrite f y (Rebuild x n int) = y
+onXpWrite f y (Regenerate x n int i) = y
+
+-- a REBUILD that leaves its last source out
+abbrev pub missing : Acting
+missing s g sent act = onRebuild (λ x n int. put s (spanAt g x) (gathered s g sent (x .count) (n - 1) int)) (leaves s g sent act) act
+
+pub missing-not : Restores (callBy (actingBy missing)) (actingBy missing) → ⊥
+unfolding decideOf stepOutcome validImage framedOk rangesOk offsetsOk tableOk statesOk newAddress addressesOk slotsOk eachOk ranksOk slotOk slotOf slotAt place every allBelow countBelow leastBelow driveOf part put num toBe _⊻_ xorAll sourcesFrom gathered opOf listedOf ownOf resolvedOf listBytes sourceOf ownEntry driveBad entryBad firstBad
+missing-not h =
+    let x = h bench benchShape [] 1 0 2 junk (0 ∷ 2 ∷ []) 2 0xFFFFFFFF (on-bench (callBy (actingBy missing))) both-rows room .back in
+    let z : _≡_ {A = ℕ} 10 1 = ap (λ (l : List ℕ). getD l 76 0) x in
+    omega arith
+
+-- "Counting the target among REBUILD's operands."
+abbrev pub counting : Acting
+counting s g sent act =
+    onRebuild (λ x n int. put s (spanAt g x) (blocksOf s g x ⊻ gathered s g sent (x .count) n int)) (leaves s g sent act) act
+
+pub counting-not : Restores (callBy (actingBy counting)) (actingBy counting) → ⊥
+unfolding decideOf stepOutcome validImage framedOk rangesOk offsetsOk tableOk statesOk newAddress addressesOk slotsOk eachOk ranksOk slotOk slotOf slotAt place every allBelow countBelow leastBelow driveOf part put num toBe _⊻_ xorAll sourcesFrom gathered opOf listedOf ownOf resolvedOf listBytes sourceOf ownEntry driveBad entryBad firstBad
+counting-not h =
+    let x = h bench benchShape [] 1 0 2 junk (0 ∷ 2 ∷ []) 2 0xFFFFFFFF (on-bench (callBy (actingBy counting))) both-rows room .back in
+    let z : _≡_ {A = ℕ} 254 1 = ap (λ (l : List ℕ). getD l 76 0) x in
+    omega arith
+
+-- a coupled write that forgets the data drive
+abbrev pub forgetting : Acting
+forgetting s g sent act = onCouple (λ x y mirror. put s (spanAt g y) (passedOn s g x y mirror sent)) (leaves s g sent act) act
+
+pub forgetting-not : SumsDiffer (callBy (actingBy forgetting)) → ⊥
+unfolding decideOf stepOutcome validImage framedOk rangesOk offsetsOk tableOk statesOk newAddress addressesOk slotsOk eachOk ranksOk slotOk slotOf slotAt place every allBelow countBelow leastBelow driveOf part put num toBe _⊻_ xorAll opOf sixteenOf tenOf rowSum summedTo owed keeping share
+forgetting-not h =
+    let x = h bench benchShape bench-start (command 1 (xdwrite 0x00) fresh room ∷ []) ((refl, refl), tt) 0 (lit≤ tt) in
+    let z : _≡_ {A = ℕ} 0xF5 0 = ap (λ (l : List ℕ). getD l 0 0) x in
+    omega arith
+
+-- an XPWRITE that stores its data
+abbrev pub storing : Acting
+storing s g sent act = onXpWrite (λ x. put s (spanAt g x) sent) (leaves s g sent act) act
+
+pub storing-not : SumsDiffer (callBy (actingBy storing)) → ⊥
+unfolding decideOf stepOutcome validImage framedOk rangesOk offsetsOk tableOk statesOk newAddress addressesOk slotsOk eachOk ranksOk slotOk slotOf slotAt place every allBelow countBelow leastBelow driveOf emptySlot newestOf bestOf better released lowered lowerOne bytesOf part put num toBe _⊻_ xorAll opOf sixteenOf tenOf rowSum summedTo owed keeping share
+storing-not h =
+    let calls = command 1 (xdwrite 0x06) fresh room ∷ command 1 (ten 0xC2 0 1) [] room ∷ command 3 (ten 0xC1 0 1) result room ∷ [] in
+    let x = h bench benchShape bench-start calls ((λ e. refl), (tt, (carried, tt))) 0 (lit≤ tt) in
+    let z : _≡_ {A = ℕ} 0x0B 0 = ap (λ (l : List ℕ). getD l 0 0) x in
+    omega arith

@@ -1,0 +1,27 @@
+-- `several::list::listed` meets its contract. Assumes nothing.
+use mathlib.Core.Path.{_∙_}
+use borrow.Author.Needs.{needs}
+use Rattle.rules.specs.Tests.{tests}
+use Rattle.several.specs.Stages.{listedOf}
+use Rattle.several.specs.Laws.{listed-on}
+use Rattle.several.proofs.list.listed.Statement.{statement}
+use Rattle.several.proofs.list.listed.Tie as tie
+
+returns : tie.Need-returns
+unfolding listedOf
+returns c = search tests
+
+returns-2 : tie.Need-returns-2
+unfolding listedOf
+returns-2 c = search tests
+
+returns-3 : tie.Need-returns-3
+returns-3 c =
+    let headed = c .headed in
+    let read = c .before .read in
+    let if1 = c .before .before .before .if1 in
+    let if2 = c .before .before .if2 in
+    headed .ensures ∙ listed-on _ _ _ _ _ _ _ (read .ensures .0) (if1 .left) (if2 .left)
+
+pub listed-spec : {M : Type 1} → statement M
+listed-spec = tie.close (tie.spec returns returns-2 (λ c κs. search needs) (λ c κs. search needs) returns-3)

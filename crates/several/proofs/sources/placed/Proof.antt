@@ -1,0 +1,22 @@
+-- `several::sources::placed` meets its contract. Assumes nothing.
+use borrow.Author.Needs.{needs}
+use Rattle.rules.specs.Tests.{tests}
+use Rattle.several.specs.Stages.{placedOf}
+use Rattle.several.proofs.sources.placed.Statement.{statement}
+use Rattle.several.proofs.sources.placed.Tie as tie
+
+returns : tie.Need-returns
+unfolding placedOf
+returns c = search tests
+
+returns-2 : tie.Need-returns-2
+unfolding placedOf
+returns-2 c = search (tests, c .before .if2 .taken)
+
+returns-3 : tie.Need-returns-3
+unfolding placedOf
+returns-3 c = search (tests, c .before .if2 .left)
+
+pub placed-spec : {M : Type 1} → statement M
+placed-spec =
+    tie.close (tie.spec (λ c. search needs) returns (λ c κs. search needs) returns-2 (λ c κs. search needs) returns-3)

@@ -1,0 +1,21 @@
+-- `several::sources::regenerated` meets its contract. Assumes nothing.
+use mathlib.Core.Path.{sym, _∙_}
+use borrow.Author.Needs.{needs}
+use Rattle.several.specs.Laws.{regenerated-at, regenerated-none}
+use Rattle.several.proofs.sources.regenerated.Statement.{statement}
+use Rattle.several.proofs.sources.regenerated.Tie as tie
+
+returns : tie.Need-returns
+returns c =
+    let gathered = c .gathered in
+    let empty-slot = c .before .before .before .before .empty-slot in
+    let i = c .before .before .i in
+    gathered .ensures ∙ regenerated-at _ _ _ _ _ _ _ _ (sym (empty-slot .ensures) ∙ i .given .1)
+
+returns-2 : tie.Need-returns-2
+returns-2 c = regenerated-none _ _ _ _ _ _ _ (sym (c .before .before .empty-slot .ensures) ∙ c .enum-told .given .1)
+
+pub regenerated-spec : {M : Type 1} → statement M
+regenerated-spec =
+    tie.close
+    (tie.spec (λ c κs. search needs) (λ c. search needs) (λ c κs. search needs) (λ c. search needs) returns returns-2)

@@ -1,0 +1,85 @@
+-- Where the tests of a stage have passed, and what a search has found, or nothing. Assumes nothing.
+use Prim.Native.Nat.{ℕ, _+_, _*_, _≤_}
+use native.Mathlib.Omega.{arith}
+use mathlib.Core.Bool.{Bool, true, false, cond}
+use mathlib.Core.List.{List}
+use mathlib.Core.Path.{_≡_, refl, _∙_}
+use lib.Dec.{eqb}
+use borrow.Author.Tests.{eqb-true, ne-eqb, le-ltb}
+use Rattle.rules.specs.declared.Found.{Found}
+use Rattle.rules.specs.declared.Found.the-variants.{At, Nothing}
+use Rattle.geometry.specs.declared.Geometry.{Geometry}
+use Rattle.sense.specs.declared.Answer.the-variants.{Good, Busy, BadList}
+use Rattle.command.specs.declared.Command.{Command}
+use Rattle.command.specs.Command.{intOf, listSecOf, ownOf, resolvedOf, listBytes}
+use Rattle.meaning.specs.declared.Span.{Span}
+use Rattle.meaning.specs.declared.Act.the-variants.{Rebuild, Regenerate}
+use Rattle.meaning.specs.declared.Fault.{Fault}
+use Rattle.meaning.specs.declared.Seen.the-variants.{Dash, Entry}
+use Rattle.meaning.specs.declared.Decision.the-variants.{Stop, Go}
+use Rattle.meaning.specs.Sources.{firstBad}
+use Rattle.meaning.specs.Checks.{spanOf}
+use Rattle.several.specs.declared.list.Head.{Head}
+use Rattle.several.specs.Stages.{faultOr, rebuiltOf, gatheredOf, regeneratedOf, placedOf, lengthOf, ownedOf, headOf, headedOf, listedOf, countedOf, fieldsOf, unbounded, rebuildOf}
+
+-- the list is among the bytes that were sent
+pub list-fits : (k : Command) (L n : ℕ) → n ≡ listBytes k L → k .list ≤ n
+unfolding listBytes
+list-fits k L n e = pick (eqb (k .list) 0) (eqb (intOf k) 0) refl e
+  where
+    pick : (u v : Bool) → eqb (k .list) 0 ≡ u → n ≡ cond u 0 (cond v (k .list) (k .list + k .count * L)) → k .list ≤ n
+    pick true v p e = let z : k .list ≡ 0 = eqb-true _ _ p in omega arith
+    pick false true p e = omega arith
+    pick false false p e = omega arith
+
+module _ (m : List ℕ) (g : Geometry) (t : ℕ) (k : Command) (s : List ℕ) where
+  -- ---- where the tests have passed
+
+  pub rebuild-on : (long : Bool) → long ≡ unbounded k → fieldsOf false long m g t k s ≡ rebuildOf m g t k s
+  unfolding rebuildOf
+  rebuild-on long e = rw e
+
+  pub fields-on : (keep long : Bool) (sec due : ℕ) → sec ≡ listSecOf k → (sec ≡ 1 → ⊥) → (sec ≡ 3 → ⊥) → long ≡ false
+      → due ≡ listBytes k (g .l)
+      → countedOf keep due m g t k s ≡ fieldsOf keep long m g t k s
+  unfolding fieldsOf
+  fields-on keep long sec due e x y l d =
+      rw (d, l, ne-eqb (listSecOf k) 1 (λ q. x (e ∙ q)), ne-eqb (listSecOf k) 3 (λ q. y (e ∙ q)))
+
+  pub listed-on : (keep : Bool) (h : Head) → h ≡ headOf s → (k .list ≡ 0 → ⊥) → 8 ≤ k .list → headedOf keep h m g t k s ≡ listedOf keep m g t k s
+  unfolding listedOf
+  listed-on keep h e z l = rw (e, ne-eqb (k .list) 0 z, le-ltb (k .list) 8 l)
+
+  module _ (n : ℕ) where
+    pub length-on : (keep : Bool) (own r : Command) → r ≡ resolvedOf own (g .b) → own ≡ ownOf k s → (k .count ≡ 0 → ⊥)
+        → placedOf keep n m g t r s ≡ lengthOf keep n m g t k s
+    unfolding lengthOf
+    length-on keep own r h e z = rw (h, e, ne-eqb (k .count) 0 z)
+
+    -- ---- what a search has found
+
+    module _ (x : Span) (int : ℕ) (f : Fault) (h : x ≡ spanOf t k) (i : int ≡ intOf k) (e : f ≡ firstBad m g s (k .count) 0 n) where
+      pub rebuilt-by : faultOr f (Go (Rebuild x n int) Good) ≡ rebuiltOf n m g t k s
+      unfolding rebuiltOf
+      rebuilt-by = rw (h, i, e)
+
+      pub gathered-by : (slot : ℕ) → faultOr f (Go (Regenerate x n int slot) Good) ≡ gatheredOf n slot m g t k s
+      unfolding gatheredOf
+      gathered-by slot = rw (h, i, e)
+
+    module _ (f : Found) where
+      pub regenerated-at : (i : ℕ) → f ≡ At i → gatheredOf n i m g t k s ≡ regeneratedOf n f m g t k s
+      unfolding regeneratedOf
+      regenerated-at i e = rw e
+
+      pub regenerated-none : f ≡ Nothing → Stop 9 Dash Busy ≡ regeneratedOf n f m g t k s
+      unfolding regeneratedOf
+      regenerated-none e = rw e
+
+      pub owned-at : (keep : Bool) (i : ℕ) → f ≡ At i → Stop 7 (Entry i 0) BadList ≡ ownedOf keep n f m g t k s
+      unfolding ownedOf
+      owned-at keep i e = rw e
+
+      pub owned-none : (keep : Bool) → f ≡ Nothing → lengthOf keep n m g t k s ≡ ownedOf keep n f m g t k s
+      unfolding ownedOf
+      owned-none keep e = rw e

@@ -1,0 +1,63 @@
+// The step, the reset and the marking of a drive. Every image, command and data gets an answer; the
+// caller has checked nothing.
+use geometry::Address;
+use geometry::Geometry;
+use meaning::Decision;
+use rules::Found;
+use sense::Answer;
+use sense::Outcome;
+ghost use mathlib.Core.Path.{_≡_};
+ghost use Rattle.shelf.specs.Stepped.{Stepped, Reset, Marked};
+
+// Carries out one command: it is decided on a shared image, and only a decision to go reaches the
+// code that changes one.
+pub fn step(image: &mut [u8], target: u32, cdb: &[u8], sent: &[u8], room: &mut [u8]) -> Outcome
+    ensures { λ r. ⌜ Stepped (now (image .entry)) target (now (cdb .entry)) (now (sent .entry)) (now (room .entry)) r (now (image .exit)) (now (room .exit)) ⌝ }
+{
+    let n = room.len();
+    match decide::decide(image, Address(target as usize), cdb, sent, n) {
+        Decision::Stop(_, _, answer) => sense::outcome_of(answer, 0),
+        Decision::Go(act, answer) => {
+            let g = Geometry::read(image);
+            let count = act::carry_out(image, g, act, sent, room);
+            sense::outcome_of(answer, count)
+        }
+    }
+}
+
+// Hard reset of a drive: all its results go.
+pub fn reset(image: &mut [u8], target: u32) -> Answer
+    ensures { λ r. ⌜ Reset (now (image .entry)) target r (now (image .exit)) ⌝ }
+{
+    if !image::valid(image) {
+        return Answer::BadImage;
+    }
+    let g = Geometry::read(image);
+    match drives::find_drive(image, g, Address(target as usize)) {
+        Found::At(i) => {
+            slots::drop_drive(image, g, i);
+            Answer::Good
+        }
+        Found::Nothing => Answer::NoTarget,
+    }
+}
+
+// Marks a drive present (0) or failed (1).
+pub fn mark(image: &mut [u8], target: u32, state: u32) -> Answer
+    ensures { λ r. ⌜ Marked (now (image .entry)) target state r (now (image .exit)) ⌝ }
+{
+    if !image::valid(image) {
+        return Answer::BadImage;
+    }
+    let g = Geometry::read(image);
+    match drives::find_drive(image, g, Address(target as usize)) {
+        Found::At(i) => {
+            if 1 < state {
+                return Answer::BadState;
+            }
+            drives::mark(image, g, i, state as usize);
+            Answer::Good
+        }
+        Found::Nothing => Answer::NoTarget,
+    }
+}

@@ -1,0 +1,58 @@
+-- The checks of READ, WRITE, XPWRITE and XDREAD cut into the stages that the code takes. What a stage reads from the image is a
+-- plain value for the next. Assumes nothing.
+use Prim.Native.Nat.{ℕ, _*_}
+use mathlib.Core.Bool.{not}
+use mathlib.Core.List.{List, [], _∷_, _++_}
+use lib.Dec.{eqb}
+use lib.ListN.{length}
+use Rattle.rules.specs.declared.Found.{Found}
+use Rattle.rules.specs.Rule.{rule, first}
+use Rattle.geometry.specs.declared.Geometry.{Geometry}
+use Rattle.slots.specs.Record.{slotOf}
+use Rattle.slots.specs.Find.{newestOf}
+use Rattle.sense.specs.declared.Answer.the-variants.{Good, WrongCount, BadField}
+use Rattle.command.specs.declared.Command.{Command}
+use Rattle.meaning.specs.declared.Act.the-variants.{Read, Write, XpWrite, XdRead}
+use Rattle.meaning.specs.declared.Seen.the-variants.{Dash, Cdb}
+use Rattle.meaning.specs.declared.Decision.{Decision}
+use Rattle.meaning.specs.declared.Decision.the-variants.{Stop, Go}
+use Rattle.meaning.specs.Acts.{index}
+use Rattle.meaning.specs.Checks.{isNothing, zeroSix, zeroControl, aboveM, inRange, roomRule, spanOf}
+
+-- ---- READ, WRITE, XPWRITE
+
+unfoldable pub roomyOf : Geometry → Command → ℕ → Decision → Decision
+roomyOf g k r d = first Stop (roomRule g k r) d
+
+unfoldable pub plainOf : ℕ → Geometry → Command → List ℕ → Decision → Decision
+plainOf due g k s d =
+    first Stop
+    (zeroControl 9 k
+    ++ rule 5 Dash (not (eqb (length s) due)) WrongCount
+    ∷ rule 6 (Cdb 7) (eqb (k .count) 0) Good
+    ∷ inRange (Cdb 2) g k)
+    d
+
+unfoldable pub readOf : Geometry → ℕ → Command → List ℕ → ℕ → Decision
+readOf g t k s r = first Stop (zeroSix k) (plainOf 0 g k s (roomyOf g k r (Go (Read (spanOf t k)) Good)))
+
+unfoldable pub writeOf : Geometry → ℕ → Command → List ℕ → Decision
+writeOf g t k s = first Stop (zeroSix k) (plainOf (k .count * g .l) g k s (Go (Write (spanOf t k)) Good))
+
+unfoldable pub xpwriteOf : Geometry → ℕ → Command → List ℕ → Decision
+xpwriteOf g t k s = first Stop (zeroSix k ++ aboveM 7 g k) (plainOf (k .count * g .l) g k s (Go (XpWrite (spanOf t k)) Good))
+
+-- ---- XDREAD
+
+-- slot i answers, with a result of len blocks
+unfoldable pub answeredOf : ℕ → ℕ → Geometry → ℕ → Command → ℕ → Decision
+answeredOf i len g t k r = first Stop (rule 8 (Cdb 7) (not (eqb len (k .count))) BadField ∷ []) (roomyOf g k r (Go (XdRead (spanOf t k) i) Good))
+
+unfoldable pub matchedOf : Found → List ℕ → Geometry → ℕ → Command → ℕ → Decision
+matchedOf f m g t k r =
+    first Stop (rule 8 (Cdb 2) (isNothing f) BadField ∷ []) (answeredOf (index f) (slotOf m g (index f) .len) g t k r)
+
+unfoldable pub xdreadOf : List ℕ → Geometry → ℕ → Command → List ℕ → ℕ → Decision
+xdreadOf m g t k s r =
+    first Stop (zeroSix k ++ zeroControl 9 k ++ rule 5 Dash (not (eqb (length s) 0)) WrongCount ∷ [])
+    (matchedOf (newestOf m g t (k .block .0)) m g t k r)

@@ -1,0 +1,157 @@
+-- What a write does to each row's sum. Assumes nothing.
+use mathlib.Core.Path.{_≡_, refl, sym, ap, ap₂, _∙_}
+use mathlib.Core.Logic.{_⊎_, inl, inr, ⊎-elim}
+use mathlib.Core.List.{List, []}
+use Prim.Native.Nat.{ℕ, zero, suc, _+_, _-_, _*_, _≤_, _<_}
+use native.Mathlib.Nat.{not-suc-le-zero, mul-le-mul-right, suc-mul}
+use native.Mathlib.Omega.{arith}
+use lib.ListN.{length}
+use Rattle.octets.specs.Part.{part, length-part, part-part}
+use Rattle.octets.specs.Put.{put}
+use Rattle.octets.specs.PutPut.{part-put-below, part-put-above, part-put-of, part-put-apart}
+use Rattle.octets.specs.Xor.{_⊻_, length-xor-le, xor-nil, xor-commutes, xor-regroups, xor-swaps, xor-cancels, part-xor}
+use Rattle.rules.specs.Cases.{order, same, apart, last-or-below}
+use Rattle.geometry.specs.declared.Geometry.{Geometry}
+use Rattle.geometry.specs.Header.{place}
+use Rattle.geometry.specs.Frame.{Framed}
+use Rattle.geometry.specs.Places.{Range, place-after-media, place-on, place-before, range-room}
+use Rattle.sums.specs.Laws.{block-inside}
+use Rattle.sums.specs.Row.{blockIn, summedTo, rowSum}
+use Rattle.sums.specs.Share.{share, share-in, share-below, share-past}
+
+-- ---- from blocks to sums
+
+module _ (s t : List ℕ) (g : Geometry) (r : ℕ) where
+  same-to : (n : ℕ) → ((e : ℕ) → e < n → blockIn t g r e ≡ blockIn s g r e) → summedTo t g r n ≡ summedTo s g r n
+  unfolding summedTo
+  same-to zero h = refl
+  same-to (suc n) h = ap₂ _⊻_ (same-to n (λ e l. h e (omega arith))) (h n (omega arith))
+
+  -- the same blocks, the same sum
+  pub sum-same : ((e : ℕ) → e < g .d → blockIn t g r e ≡ blockIn s g r e) → rowSum t g r ≡ rowSum s g r
+  unfolding rowSum
+  sum-same h = same-to (g .d) h
+
+  -- one drive's block changes by δ
+  module _ (d : ℕ) (δ : List ℕ) (own : blockIn t g r d ≡ blockIn s g r d ⊻ δ) where
+    one-to : (n : ℕ) → d < n → ((e : ℕ) → e < n → (e ≡ d → ⊥) → blockIn t g r e ≡ blockIn s g r e) → summedTo t g r n ≡ summedTo s g r n ⊻ δ
+    unfolding summedTo
+    one-to zero l h = absurd (not-suc-le-zero l)
+    one-to (suc n) l h =
+        ⊎-elim
+        (λ (q : d ≡ n).
+        ap₂ _⊻_ (same-to n (λ e le. h e (omega arith) (λ k. omega arith))) (rw q at own)
+        ∙ sym (xor-regroups (summedTo s g r n) (blockIn s g r n) δ))
+        (λ lt.
+        ap₂ _⊻_ (one-to n lt (λ e le. h e (omega arith))) (h n (omega arith) (λ k. omega arith))
+        ∙ xor-swaps (summedTo s g r n) δ (blockIn s g r n))
+        (last-or-below l)
+
+    pub sum-one : d < g .d → ((e : ℕ) → e < g .d → (e ≡ d → ⊥) → blockIn t g r e ≡ blockIn s g r e) → rowSum t g r ≡ rowSum s g r ⊻ δ
+    unfolding rowSum
+    sum-one l h = one-to (g .d) l h
+
+-- ---- a write that ends before the media
+
+pub sum-before : (s : List ℕ) (g : Geometry) (at : ℕ) (ys : List ℕ) → at + length ys ≤ g .media → (r : ℕ) → rowSum (put s at ys) g r ≡ rowSum s g r
+sum-before s g at ys h r =
+    sum-same s (put s at ys) g r (λ e l. part-put-above s at ys (place g e r) (g .l) (omega (arith, place-after-media g e r)))
+
+-- ---- a write over n blocks of drive d from block b on
+
+module _ (s : List ℕ) (g : Geometry) (f : Framed s g) (d b n : ℕ) (w : Range g d b n) (ys : List ℕ) (long : length ys ≡ n * g .l) where
+  abbrev at : ℕ
+  at = place g d b
+
+  abbrev old : List ℕ
+  old = part s at (n * g .l)
+
+  room : at + n * g .l ≤ length s
+  room = range-room s g d b n f w
+
+  length-old : length old ≡ n * g .l
+  length-old = length-part s at (n * g .l) room
+
+  -- block r of the drive lies before block q
+  block-before : (r q : ℕ) → r < q → place g d r + g .l ≤ place g d q
+  unfolding place
+  block-before r q l =
+      let h : suc (d * g .b + r) * g .l ≤ (d * g .b + q) * g .l = mul-le-mul-right (g .l) (omega arith) in
+      omega (arith, suc-mul (d * g .b + r) (g .l))
+
+  block-upto : (r q : ℕ) → r ≤ q → place g d r ≤ place g d q
+  unfolding place
+  block-upto r q l =
+      let h : (d * g .b + r) * g .l ≤ (d * g .b + q) * g .l = mul-le-mul-right (g .l) (omega arith) in
+      omega arith
+
+  other-block : (r e : ℕ) → r < g .b → (e ≡ d → ⊥) → blockIn (put s at ys) g r e ≡ blockIn s g r e
+  other-block r e l ne =
+      part-put-apart s at ys (place g e r) (g .l)
+      (⊎-elim (λ h. inl (let k = place-before g e d r b 1 h (omega arith) in omega arith))
+      (λ h. inr (let k = place-before g d e b r n h (w .range-in) in omega arith)) (apart e d ne))
+
+  own-below : (r : ℕ) → r < b → blockIn (put s at ys) g r d ≡ blockIn s g r d
+  own-below r h = part-put-below s at ys (place g d r) (g .l) (block-before r b h)
+
+  own-above : (r : ℕ) → b + n ≤ r → blockIn (put s at ys) g r d ≡ blockIn s g r d
+  own-above r h =
+      let e : place g d (b + n) ≡ at + n * g .l = place-on g d b n in
+      part-put-above s at ys (place g d r) (g .l) (omega (arith, block-upto (b + n) r h))
+
+  -- block r, counted from block b on
+  inside : (r : ℕ) → r < b + n → b ≤ r → (r - b) * g .l + g .l ≤ n * g .l
+  inside r k h = block-inside (r - b) n (g .l) (omega arith)
+
+  at-row : (r : ℕ) → b ≤ r → place g d r ≡ at + (r - b) * g .l
+  at-row r h = ap (place g d) (omega arith) ∙ place-on g d b (r - b)
+
+  old-block : (r : ℕ) → b ≤ r → r < b + n → part old ((r - b) * g .l) (g .l) ≡ blockIn s g r d
+  old-block r h k =
+      part-part s at (n * g .l) ((r - b) * g .l) (g .l) (inside r k h) ∙ ap (λ (q : ℕ). part s q (g .l)) (sym (at-row r h))
+
+  new-block : (r : ℕ) → b ≤ r → r < b + n → blockIn (put s at ys) g r d ≡ part ys ((r - b) * g .l) (g .l)
+  new-block r h k =
+      ap (λ (q : ℕ). part (put s at ys) q (g .l)) (at-row r h)
+      ∙ part-put-of s at ys ((r - b) * g .l) (g .l) (omega (arith, room)) (omega (arith, inside r k h))
+
+  own-in : (r : ℕ) → b ≤ r → r < b + n → blockIn (put s at ys) g r d ≡ blockIn s g r d ⊻ part (old ⊻ ys) ((r - b) * g .l) (g .l)
+  own-in r h k =
+      let i = (r - b) * g .l in
+      let c = inside r k h in
+      let u = part old i (g .l) in
+      let v = part ys i (g .l) in
+      let lu : length u ≡ g .l = length-part old i (g .l) (omega (arith, length-old)) in
+      let lv : length v ≡ g .l = length-part ys i (g .l) (omega arith) in
+      new-block r h k
+      ∙ sym (xor-cancels v u (omega arith))
+      ∙ xor-commutes (v ⊻ u) u
+      ∙ ap₂ _⊻_ (old-block r h k) (xor-commutes v u ∙ sym (part-xor old ys i (g .l)))
+
+  own-block : (r : ℕ) → blockIn (put s at ys) g r d ≡ blockIn s g r d ⊻ share g b (old ⊻ ys) r
+  own-block r =
+      let none : (δ : List ℕ) → δ ≡ [] → blockIn s g r d ≡ blockIn s g r d ⊻ δ = (λ δ e. sym (ap (_⊻_ (blockIn s g r d)) e ∙ xor-nil (blockIn s g r d))) in
+      let lo = length-xor-le old ys (omega (arith, length-old)) in
+      ⊎-elim (λ h. own-below r h ∙ none _ (share-below g b (old ⊻ ys) r h))
+      (λ h. ⊎-elim (λ k. own-in r h k ∙ ap (_⊻_ (blockIn s g r d)) (sym (share-in g b (old ⊻ ys) r h)))
+      (λ k. own-above r k ∙ none _ (share-past g b (old ⊻ ys) r n (omega (arith, length-old)) k))
+      (order r (b + n)))
+      (order r b)
+
+  -- each row's sum changes by the old bytes and the new ones there
+  pub sum-put : (r : ℕ) → r < g .b → rowSum (put s at ys) g r ≡ rowSum s g r ⊻ share g b (old ⊻ ys) r
+  sum-put r l = sum-one s (put s at ys) g r d (share g b (old ⊻ ys) r) (own-block r) (w .drive-in) (λ e le ne. other-block r e l ne)
+
+  -- row by row: outside the blocks written, and inside
+  pub sum-put-outside : (r : ℕ) → r < g .b → (r < b) ⊎ (b + n ≤ r) → rowSum (put s at ys) g r ≡ rowSum s g r
+  sum-put-outside r l h =
+      sum-same s (put s at ys) g r
+      (λ e le. ⊎-elim (λ q. rw q (⊎-elim (λ k. own-below r k) (λ k. own-above r k) h)) (λ ne. other-block r e l ne) (same e d))
+
+  pub sum-put-inside : (r : ℕ) → r < g .b → b ≤ r → r < b + n
+      → rowSum (put s at ys) g r ≡ rowSum s g r ⊻ (blockIn s g r d ⊻ part ys ((r - b) * g .l) (g .l))
+  sum-put-inside r l h k =
+      let i = (r - b) * g .l in
+      sum-put r l
+      ∙ ap (_⊻_ (rowSum s g r))
+      (share-in g b (old ⊻ ys) r h ∙ part-xor old ys i (g .l) ∙ ap (λ (o : List ℕ). o ⊻ part ys i (g .l)) (old-block r h k))

@@ -1,0 +1,1 @@
+// What a row of a shelf is, and its sum: definitions and laws.

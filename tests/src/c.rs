@@ -1,0 +1,22 @@
+//! `include/shelf.h` in Rust.
+
+extern "C" {
+    pub fn shelf_step(
+        image: *mut u8,
+        image_len: usize,
+        target: u32,
+        cdb: *const u8,
+        cdb_len: usize,
+        data: *const u8,
+        data_len: usize,
+        room: *mut u8,
+        room_len: usize,
+        sense: *mut u8,
+        sense_len: usize,
+        count: *mut u32,
+    ) -> u32;
+
+    pub fn shelf_reset(image: *mut u8, image_len: usize, target: u32) -> u32;
+
+    pub fn shelf_mark(image: *mut u8, image_len: usize, target: u32, state: u32) -> u32;
+}
