@@ -5,3 +5,4 @@ pub mod Beside
 pub mod Retained
 pub mod Calls
 pub mod Step
+pub mod Count

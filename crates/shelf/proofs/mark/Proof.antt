@@ -17,53 +17,53 @@ read-requires c κs = valid-long _ (sym (c .before .before .valid .ensures) ∙ 
 
 find-drive-requires : tie.Need-find-drive-requires
 find-drive-requires c κs =
-    let valid = c .before .before .before .before .valid in
-    let if1 = c .before .before .before .if1 in
-    let read = c .before .read in
-    valid-framed _ _ (sym (valid .ensures) ∙ not-false _ (if1 .left)) (read .ensures)
+    let the-valid = c .before .before .before .before .valid in
+    let the-if1 = c .before .before .before .if1 in
+    let the-read = c .before .read in
+    let valid = the-valid in let if1 = the-if1 in let read = the-read in valid-framed _ _ (sym (valid .ensures) ∙ not-false _ (if1 .left)) (read .ensures)
 
 returns-2 : tie.Need-returns-2
 returns-2 c =
-    let valid = c .before .before .before .before .before .before .before .before .before .valid in
-    let if1 = c .before .before .before .before .before .before .before .before .if1 in
-    let read = c .before .before .before .before .before .before .read in
-    let find-drive = c .before .before .before .before .find-drive in
-    let i = c .before .before .i in
-    let if2 = c .if2 in
-    mark-state _ _ (sym (valid .ensures) ∙ not-false _ (if1 .left)) _ (read .ensures) _ (sym (find-drive .ensures) ∙ i .given .1) _ (if2 .taken)
+    let the-valid = c .before .before .before .before .before .before .before .before .before .valid in
+    let the-if1 = c .before .before .before .before .before .before .before .before .if1 in
+    let the-read = c .before .before .before .before .before .before .read in
+    let the-find-drive = c .before .before .before .before .find-drive in
+    let the-i = c .before .before .i in
+    let the-if2 = c .if2 in
+    let valid = the-valid in let if1 = the-if1 in let read = the-read in let find-drive = the-find-drive in let i = the-i in let if2 = the-if2 in mark-state _ _ (sym (valid .ensures) ∙ not-false _ (if1 .left)) _ (read .ensures) _ (sym (find-drive .ensures) ∙ i .given .1) _ (if2 .taken)
 
 mark-requires : tie.Need-mark-requires
 mark-requires c κs =
-    let valid = c .before .before .before .before .before .before .before .before .before .before .valid in
-    let if1 = c .before .before .before .before .before .before .before .before .before .if1 in
-    let read = c .before .before .before .before .before .before .before .read in
-    let find-drive = c .before .before .before .before .before .find-drive in
-    let i = c .before .before .before .i in
-    let if2 = c .before .if2 in
-    (valid-framed _ _ (sym (valid .ensures) ∙ not-false _ (if1 .left)) (read .ensures), drive-inside _ _ _ _ (sym (find-drive .ensures) ∙ i .given .1) .0, omega (arith, if2 .left))
+    let the-valid = c .before .before .before .before .before .before .before .before .before .before .valid in
+    let the-if1 = c .before .before .before .before .before .before .before .before .before .if1 in
+    let the-read = c .before .before .before .before .before .before .before .read in
+    let the-find-drive = c .before .before .before .before .before .find-drive in
+    let the-i = c .before .before .before .i in
+    let the-if2 = c .before .if2 in
+    let valid = the-valid in let if1 = the-if1 in let read = the-read in let find-drive = the-find-drive in let i = the-i in let if2 = the-if2 in (valid-framed _ _ (sym (valid .ensures) ∙ not-false _ (if1 .left)) (read .ensures), drive-inside _ _ _ _ (sym (find-drive .ensures) ∙ i .given .1) .0, omega (arith, if2 .left))
 
 enum-told : tie.Need-enum-told
 enum-told c = search needs
 
 returns-3 : tie.Need-returns-3
 returns-3 c =
-    let valid = c .before .before .before .before .before .before .before .before .before .before .before .before .before .valid in
-    let if1 = c .before .before .before .before .before .before .before .before .before .before .before .before .if1 in
-    let read = c .before .before .before .before .before .before .before .before .before .before .read in
-    let find-drive = c .before .before .before .before .before .before .before .before .find-drive in
-    let i = c .before .before .before .before .before .before .i in
-    let if2 = c .before .before .before .before .if2 in
-    let mark = c .before .before .mark in
-    mark-done _ _ (sym (valid .ensures) ∙ not-false _ (if1 .left)) _ (read .ensures) _ (sym (find-drive .ensures) ∙ i .given .1) _ (if2 .left) _ (mark .ensures)
+    let the-valid = c .before .before .before .before .before .before .before .before .before .before .before .before .before .valid in
+    let the-if1 = c .before .before .before .before .before .before .before .before .before .before .before .before .if1 in
+    let the-read = c .before .before .before .before .before .before .before .before .before .before .read in
+    let the-find-drive = c .before .before .before .before .before .before .before .before .find-drive in
+    let the-i = c .before .before .before .before .before .before .i in
+    let the-if2 = c .before .before .before .before .if2 in
+    let the-mark = c .before .before .mark in
+    let valid = the-valid in let if1 = the-if1 in let read = the-read in let find-drive = the-find-drive in let i = the-i in let if2 = the-if2 in let mark = the-mark in mark-done _ _ (sym (valid .ensures) ∙ not-false _ (if1 .left)) _ (read .ensures) _ (sym (find-drive .ensures) ∙ i .given .1) _ (if2 .left) _ (mark .ensures)
 
 returns-4 : tie.Need-returns-4
 returns-4 c =
-    let valid = c .before .before .before .before .before .before .before .valid in
-    let if1 = c .before .before .before .before .before .before .if1 in
-    let read = c .before .before .before .before .read in
-    let find-drive = c .before .before .find-drive in
-    let enum-told = c .enum-told in
-    mark-nobody _ _ (sym (valid .ensures) ∙ not-false _ (if1 .left)) _ (read .ensures) _ (sym (find-drive .ensures) ∙ enum-told .given .1)
+    let the-valid = c .before .before .before .before .before .before .before .valid in
+    let the-if1 = c .before .before .before .before .before .before .if1 in
+    let the-read = c .before .before .before .before .read in
+    let the-find-drive = c .before .before .find-drive in
+    let the-enum-told = c .enum-told in
+    let valid = the-valid in let if1 = the-if1 in let read = the-read in let find-drive = the-find-drive in let enum-told = the-enum-told in mark-nobody _ _ (sym (valid .ensures) ∙ not-false _ (if1 .left)) _ (read .ensures) _ (sym (find-drive .ensures) ∙ enum-told .given .1)
 
 pub mark-spec : {M : Type 1} → statement M
 mark-spec =

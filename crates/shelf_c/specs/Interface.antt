@@ -1,0 +1,62 @@
+-- The C call of a step (01, "What the shelf does"): "It lends a sense room too, whose first 37 bytes take the sense, the rest staying; a
+-- shorter one is call 5 before all other checks, nothing moved." Assumes nothing.
+use mathlib.Core.Path.{_≡_, refl, sym, ap, _∙_}
+use mathlib.Core.Bool.{Bool, true, false, cond}
+use mathlib.Core.List.{List}
+use Prim.Native.Nat.{ℕ, _≤_, _<_}
+use lib.Dec.{ltb}
+use lib.ListN.{length}
+use borrow.Author.Tests.{lt-ltb, le-ltb}
+use Rattle.octets.specs.Put.{put}
+use Rattle.sense.specs.declared.Outcome.{Outcome}
+use Rattle.sense.specs.declared.Answer.the-variants.{ShortRoom}
+use Rattle.sense.specs.Answers.{numberOf}
+use native.Mathlib.Omega.{arith}
+use Rattle.sense.specs.SenseLaws.{sound}
+use Rattle.meaning.specs.declared.Decision.{Decision}
+use Rattle.meaning.specs.declared.Decision.the-variants.{Stop, Go}
+use Rattle.meaning.specs.Step.{decided, outcomeAfter, stepImage, stepRoom, stepOutcome}
+use Rattle.demands.specs.Count.{count-small}
+use Rattle.shelf.specs.Stepped.{Stepped}
+
+-- the sense room n is too short
+abbrev pub short : List ℕ → Bool
+short n = ltb (length n) 37
+
+-- image m, target a, CDB c, data-out bytes s, room r, sense room n and count k become number x, image m′, room r′, sense room n′, count k′
+pub record StepCall (m : List ℕ) (a : ℕ) (c s r n : List ℕ) (k x : ℕ) (m′ r′ n′ : List ℕ) (k′ : ℕ) : Type 0 where
+  pub number : x ≡ cond (short n) (numberOf ShortRoom) (numberOf (stepOutcome m a c s r .answer))
+  pub image : m′ ≡ cond (short n) m (stepImage m a c s r)
+  pub room : r′ ≡ cond (short n) r (stepRoom m a c s r)
+  pub sense : n′ ≡ cond (short n) n (put n 0 (stepOutcome m a c s r .sense .bytes))
+  pub count : k′ ≡ cond (short n) k (stepOutcome m a c s r .count)
+
+-- as the code goes
+pub too-short : (m : List ℕ) (a : ℕ) (c s r n : List ℕ) (k : ℕ) → length n < 37 → StepCall m a c s r n k 261 m r n k
+too-short m a c s r n k l =
+    let e : short n ≡ true = lt-ltb (length n) 37 l in
+    record { number = rw e; image = rw e; room = rw e; sense = rw e; count = rw e }
+
+pub carried : (m : List ℕ) (a : ℕ) (c s r n : List ℕ) (k x : ℕ) (o : Outcome) (m′ r′ n′ : List ℕ) (k′ : ℕ) → 37 ≤ length n → Stepped m a c s r o m′ r′
+    → x ≡ numberOf (o .answer) → n′ ≡ put n 0 (o .sense .bytes) → k′ ≡ o .count → StepCall m a c s r n k x m′ r′ n′ k′
+carried m a c s r n k x o m′ r′ n′ k′ l h p q z =
+    let e : short n ≡ false = le-ltb (length n) 37 l in
+    record {
+      number = p ∙ ap (λ (t : Outcome). numberOf (t .answer)) (h .outcome) ∙ rw e;
+      image = h .image ∙ rw e;
+      room = h .room ∙ rw e;
+      sense = q ∙ ap (λ (t : Outcome). put n 0 (t .sense .bytes)) (h .outcome) ∙ rw e;
+      count = z ∙ ap (λ (t : Outcome). t .count) (h .outcome) ∙ rw e;
+    }
+
+-- the sense is 37 bytes long, and the count fits
+pub told-long : (m : List ℕ) (a : ℕ) (c s r : List ℕ) (o : Outcome) (m′ r′ : List ℕ) → Stepped m a c s r o m′ r′ → length (o .sense .bytes) ≡ 37
+unfolding stepOutcome
+told-long m a c s r o m′ r′ h = ap (λ (t : Outcome). length (t .sense .bytes)) (h .outcome) ∙ pick (decided m a c s r)
+  where
+    pick : (d : Decision) → length (outcomeAfter d m .sense .bytes) ≡ 37
+    pick (Stop n w x) = sound x .bytes-long
+    pick (Go act x) = sound x .bytes-long
+
+pub fits-count : (m : List ℕ) (a : ℕ) (c s r : List ℕ) (o : Outcome) (m′ r′ : List ℕ) → Stepped m a c s r o m′ r′ → o .count < 4294967296
+fits-count m a c s r o m′ r′ h = let e : o .count ≡ stepOutcome m a c s r .count = ap (λ (t : Outcome). t .count) (h .outcome) in omega (arith, count-small m a c s r)

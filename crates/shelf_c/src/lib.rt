@@ -1,0 +1,47 @@
+// What the recorder's C driver calls: numbers and byte slices, each slice a pointer and a length.
+// include/shelf.h says what a driver writer must know.
+ghost use mathlib.Core.Path.{_≡_};
+ghost use Rattle.sense.specs.Answers.{numberOf};
+ghost use Rattle.meaning.specs.Step.{resetAnswer, resetImage, markAnswer, markImage};
+ghost use Rattle.shelf_c.specs.Interface.{StepCall};
+
+// One command. A sense room below 37 bytes is call 5 before all other checks, and moves nothing.
+#[no_mangle]
+pub extern "C" fn shelf_step(
+    image: &mut [u8],
+    target: u32,
+    cdb: &[u8],
+    sent: &[u8],
+    room: &mut [u8],
+    sense: &mut [u8],
+    count: &mut u32,
+) -> u32
+    ensures { λ r. ⌜ StepCall (now (image .entry)) target (now (cdb .entry)) (now (sent .entry)) (now (room .entry)) (now (sense .entry)) (now (count .entry)) r (now (image .exit)) (now (room .exit)) (now (sense .exit)) (now (count .exit)) ⌝ }
+{
+    if sense.len() < 37 {
+        return 261;
+    }
+    let outcome = shelf::step(image, target, cdb, sent, room);
+    let told = outcome.sense;
+    let bytes = told.bytes;
+    octets::put_at(sense, 0, &bytes);
+    *count = outcome.count as u32;
+    let answer = outcome.answer;
+    sense::number(answer)
+}
+
+// Hard reset of a drive.
+#[no_mangle]
+pub extern "C" fn shelf_reset(image: &mut [u8], target: u32) -> u32
+    ensures { λ r. ⌜ (r ≡ numberOf (resetAnswer (now (image .entry)) target)) × (now (image .exit) ≡ resetImage (now (image .entry)) target) ⌝ }
+{
+    sense::number(shelf::reset(image, target))
+}
+
+// Marks a drive present (0) or failed (1).
+#[no_mangle]
+pub extern "C" fn shelf_mark(image: &mut [u8], target: u32, state: u32) -> u32
+    ensures { λ r. ⌜ (r ≡ numberOf (markAnswer (now (image .entry)) target state)) × (now (image .exit) ≡ markImage (now (image .entry)) target state) ⌝ }
+{
+    sense::number(shelf::mark(image, target, state))
+}
