@@ -1,9 +1,14 @@
-# `make` proves the library and runs its main job on the bench shelf; `make test` is the gate.
+# `make` builds the library and runs its main job on the bench shelf; `make test` is the gate; `make bench` measures.
 all:
-	rt check bench
-	@cat crates/bench/stdout
+	tools/native-lib
+	tools/c-example
+	@cat tests/c/example.out
 
 test:
 	.ci/run
 
-.PHONY: all test
+bench:
+	tools/native-lib
+	cargo run --quiet --offline --locked --release --manifest-path bench/Cargo.toml --target-dir target/cargo --bin rebuild -- 1.15
+
+.PHONY: all test bench
