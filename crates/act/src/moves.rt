@@ -1,4 +1,5 @@
-// The acts that move bytes between the image and the caller's rooms.
+// The acts that move bytes between the image and the caller's rooms. What an act does not look at is
+// `[]` or 0 in its contract.
 use geometry::Geometry;
 use meaning::Span;
 ghost use mathlib.Core.Path.{_≡_};

@@ -24,7 +24,7 @@ pub fn pass_on(image: &mut [u8], sent: &[u8], p: Pass)
     requires { ⌜ Clear (now image) (now sent) p ⌝ }
     ensures { λ _. ⌜ now (image .exit) ≡ passed (now (image .entry)) (now (sent .entry)) p ⌝ }
 {
-    let mut piece = [0u8; 2048];
+    let mut piece = [0u8; 512];
     pass_by(image, sent, p, &mut piece);
 }
 

@@ -2,13 +2,12 @@
 use Prim.Native.Nat.{ℕ, zero, suc, _+_, _*_, _≤_, _<_}
 use native.Mathlib.Nat.{not-suc-le-zero}
 use native.Mathlib.Omega.{arith}
-use mathlib.Core.Path.{_≡_, refl, ap, _∙_}
+use mathlib.Core.Path.{_≡_, refl}
 use mathlib.Core.Bool.{Bool, true, false, cond}
 use mathlib.Core.List.{List, [], _∷_, _++_}
 use lib.Dec.{eqb}
 use lib.ListN.{length}
 use Rattle.octets.specs.Part.{part, length-part}
-use Rattle.octets.specs.Xor.{_⊻_, nil-xor, length-xor-le}
 use Rattle.octets.specs.Operands.{xorAll, Long, length-xorAll}
 use Rattle.geometry.specs.declared.Geometry.{Geometry}
 use Rattle.command.specs.Command.{sourceOf}

@@ -1,22 +1,22 @@
 -- How the code goes on from piece to piece. Assumes nothing.
 use Prim.Native.Nat.{ℕ, zero, suc, _+_, _*_, _≤_, _<_}
-use native.Mathlib.Nat.{zero-add, le-of-suc-le-suc, not-suc-le-zero}
+use native.Mathlib.Nat.{zero-add}
 use native.Mathlib.Omega.{arith}
 use mathlib.Core.Path.{_≡_, refl, sym, ap, ap₂, _∙_}
 use mathlib.Core.Bool.{Bool, true, false, cond}
 use mathlib.Core.Logic.{inl, inr, ⊎-elim}
 use mathlib.Core.List.{List, [], _∷_}
 use lib.Dec.{eqb}
-use lib.ListN.{length, getD, take, replicate, length-replicate}
-use Rattle.octets.specs.Part.{part, length-part, part-part}
+use lib.ListN.{length, getD}
+use Rattle.octets.specs.Part.{part, part-part}
 use Rattle.octets.specs.Put.{put, put-nil, length-put}
 use Rattle.octets.specs.PutPut.{part-put-apart}
-use Rattle.octets.specs.Xor.{_⊻_, part-xor, length-xor}
+use Rattle.octets.specs.Xor.{_⊻_, part-xor}
 use Rattle.octets.specs.Operands.{xorAll}
 use Rattle.gather.specs.declared.Job.{Job}
-use Rattle.gather.specs.Parts.{part-nil, part-zeros, part-whole, length-part-le, put-parts}
+use Rattle.gather.specs.Parts.{part-nil, part-zeros, length-part-le, put-parts}
 use Rattle.gather.specs.Job.{Apart}
-use Rattle.gather.specs.Pieces.{seedPiece, piecesFrom, intPiece, sumPiece, Within, Laid}
+use Rattle.gather.specs.Pieces.{seedPiece, piecesFrom, intPiece, sumPiece, Laid}
 
 -- ---- a piece of the XOR is the XOR of the pieces
 

@@ -6,7 +6,7 @@ use mathlib.Core.Path.{_≡_, refl, sym, ap, ap₂, _∙_}
 use mathlib.Core.Bool.{Bool, true, false, cond}
 use mathlib.Core.List.{List, [], _∷_, _++_}
 use lib.Dec.{eqb}
-use lib.ListN.{length, getD, replicate}
+use lib.ListN.{length, getD}
 use Rattle.octets.specs.Part.{part}
 use Rattle.octets.specs.Put.{put}
 use Rattle.octets.specs.Xor.{_⊻_, xor-regroups, nil-xor, zeros-xor}
@@ -15,9 +15,9 @@ use Rattle.geometry.specs.declared.Geometry.{Geometry}
 use Rattle.command.specs.Command.{sourceOf}
 use Rattle.meaning.specs.Acts.{sourcesFrom, intData, gathered}
 use Rattle.gather.specs.declared.Job.{Job}
-use Rattle.gather.specs.Job.{size, summed, startOf, Apart, Ready}
+use Rattle.gather.specs.Job.{size, summed, startOf, Ready}
 use Rattle.gather.specs.Starts.{startsOver, length-starts, start-is}
-use Rattle.gather.specs.Pieces.{seedPiece, piecesFrom, intPiece, sumPiece, Within, Laid}
+use Rattle.gather.specs.Pieces.{seedPiece, piecesFrom, intPiece, sumPiece, Laid}
 use Rattle.gather.specs.Length.{length-gathered}
 
 -- zeros are no operand

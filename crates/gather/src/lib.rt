@@ -1,5 +1,5 @@
-// The XOR of the sources of REBUILD and REGENERATE. Each address is looked up once; then the XOR goes
-// piece by piece, each small enough that all operands are read side by side.
+// The XOR of the sources of REBUILD and REGENERATE. Each address is looked up once, and then the XOR
+// is done piece by piece: in short pieces the machine fetches all operands side by side.
 mod operands;
 mod sources;
 
@@ -83,8 +83,10 @@ fn gather_piece(
     requires { ⌜ Laid (now image) (now places) (now sent) j n × (o + length (now acc) ≤ n) ⌝ }
     ensures { λ _. ⌜ now (image .exit) ≡ put (now (image .entry)) (j .to + o) (sumPiece (now (image .entry)) (now (places .entry)) (now (sent .entry)) j o (length (now (acc .entry)))) ⌝ }
 {
-    operands::seed(acc, image, j.own, j.from + o);
+    let from = j.from + o;
+    let to = j.to + o;
+    operands::seed(acc, image, j.own, from);
     operands::xor_sources(acc, image, places, 0, j.sources, o);
     operands::xor_int(acc, j.int, sent, 8 + 8 * j.sources, o);
-    octets::put_at(image, j.to + o, acc);
+    octets::put_at(image, to, acc);
 }

@@ -6,17 +6,17 @@ use Rattle.act.proofs.pass.lay.Tie as tie
 
 returns : tie.Need-returns
 returns c =
-    let the-args = c .before .before .before .before .before .before .before .args in
-    let the-if1 = c .before .before .before .before .if1 in
-    let the-xor-at = c .before .before .xor-at in
-    let args = the-args in let if1 = the-if1 in let xor-at = the-xor-at in lay-xor _ _ _ (args .bytes .now) _ (if1 .taken) (xor-at .ensures)
+    let args = c .before .before .before .before .before .before .before .args in
+    let if1 = c .before .before .before .before .if1 in
+    let xor-at = c .before .before .xor-at in
+    lay-xor _ _ _ (args .bytes .now) _ (if1 .taken) (xor-at .ensures)
 
 returns-2 : tie.Need-returns-2
 returns-2 c =
-    let the-args = c .before .before .before .before .before .before .before .args in
-    let the-if1 = c .before .before .before .before .if1 in
-    let the-put-at = c .before .before .put-at in
-    let args = the-args in let if1 = the-if1 in let put-at = the-put-at in lay-plain _ _ _ (args .bytes .now) _ (if1 .left) (put-at .ensures)
+    let args = c .before .before .before .before .before .before .before .args in
+    let if1 = c .before .before .before .before .if1 in
+    let put-at = c .before .before .put-at in
+    lay-plain _ _ _ (args .bytes .now) _ (if1 .left) (put-at .ensures)
 
 pub lay-spec : {M : Type 1} → statement M
 lay-spec =

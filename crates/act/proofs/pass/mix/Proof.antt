@@ -6,10 +6,10 @@ use Rattle.act.proofs.pass.mix.Tie as tie
 
 returns : tie.Need-returns
 returns c =
-    let the-copy-from = c .before .before .before .before .before .before .before .copy-from in
-    let the-if1 = c .before .before .before .before .if1 in
-    let the-xor-from = c .before .before .xor-from in
-    let copy-from = the-copy-from in let if1 = the-if1 in let xor-from = the-xor-from in mix-xor _ _ _ _ _ _ _ (copy-from .ensures) _ (if1 .taken) (copy-from .kept .0) (xor-from .ensures)
+    let copy-from = c .before .before .before .before .before .before .before .copy-from in
+    let if1 = c .before .before .before .before .if1 in
+    let xor-from = c .before .before .xor-from in
+    mix-xor _ _ _ _ _ _ _ (copy-from .ensures) _ (if1 .taken) (copy-from .kept .0) (xor-from .ensures)
 
 returns-2 : tie.Need-returns-2
 returns-2 c = mix-plain _ _ _ _ _ _ _ (c .before .before .before .copy-from .ensures) (c .if1 .left)

@@ -22,27 +22,27 @@ least-requires c κs = tt
 
 pass-front-requires : tie.Need-pass-front-requires Inv-loop μ-loop
 pass-front-requires c κs =
-    let the-pre = c .before .before .before .before .before .before .before .before .pre in
-    let the-the-loop = c .before .before .before .before .loop in
-    let the-least = c .before .before .least in
-    let pre = the-pre in let the-loop = the-the-loop in let least = the-least in (reached-clear _ _ _ (pre .0) _ _ (the-loop .inv .3), omega (arith, least .ensures), omega (arith, least .ensures))
+    let pre = c .before .before .before .before .before .before .before .before .pre in
+    let the-loop = c .before .before .before .before .loop in
+    let least = c .before .before .least in
+    (reached-clear _ _ _ (pre .0) _ _ (the-loop .inv .3), omega (arith, least .ensures), omega (arith, least .ensures))
 
 loop-less : tie.Need-loop-less Inv-loop μ-loop
 loop-less c = omega (arith, c .before .before .before .before .before .before .before .least .ensures)
 
 loop-again : tie.Need-loop-again Inv-loop μ-loop
 loop-again c =
-    let the-least = c .before .before .before .before .before .before .before .least in
-    let the-pass-front = c .before .before .before .before .pass-front in
-    let the-pre = c .before .before .before .before .before .before .before .before .before .before .before .before .before .pre in
-    let the-the-loop = c .before .before .before .before .before .before .before .before .before .loop in
-    let least = the-least in let pass-front = the-pass-front in let pre = the-pre in let the-loop = the-the-loop in (omega (arith, least .ensures), omega (arith, pass-front .kept .0), omega (arith, pass-front .kept .1), reached-more _ _ _ (pre .0) _ _ (the-loop .inv .3) _ (omega (arith, least .ensures)) _ (pass-front .ensures))
+    let least = c .before .before .before .before .before .before .before .least in
+    let pass-front = c .before .before .before .before .pass-front in
+    let pre = c .before .before .before .before .before .before .before .before .before .before .before .before .before .pre in
+    let the-loop = c .before .before .before .before .before .before .before .before .before .loop in
+    (omega (arith, least .ensures), omega (arith, pass-front .kept .0), omega (arith, pass-front .kept .1), reached-more _ _ _ (pre .0) _ _ (the-loop .inv .3) _ (omega (arith, least .ensures)) _ (pass-front .ensures))
 
 returns : tie.Need-returns Inv-loop μ-loop
 returns c =
-    let the-pre = c .before .before .before .before .before .pre in
-    let the-the-loop = c .before .loop in
-    let pre = the-pre in let the-loop = the-the-loop in reached-all _ _ _ (pre .0) _ _ (the-loop .inv .3) (omega arith)
+    let pre = c .before .before .before .before .before .pre in
+    let the-loop = c .before .loop in
+    reached-all _ _ _ (pre .0) _ _ (the-loop .inv .3) (omega arith)
 
 pub pass-by-spec : {M : Type 1} → statement M
 pass-by-spec =

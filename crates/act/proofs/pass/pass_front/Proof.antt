@@ -9,22 +9,22 @@ use Rattle.act.proofs.pass.pass_front.Tie as tie
 
 slice-aggregate-pass-piece : tie.Need-slice-aggregate-pass-piece
 slice-aggregate-pass-piece c =
-    let the-args = c .before .before .before .before .before .args in
-    let the-pre = c .before .before .before .before .before .pre in
-    let args = the-args in let pre = the-pre in sym (length-take-le (args .k) (args .buf .now) (pre .2))
+    let args = c .before .before .before .before .before .args in
+    let pre = c .before .before .before .before .before .pre in
+    sym (length-take-le (args .k) (args .buf .now) (pre .2))
 
 pass-piece-requires : tie.Need-pass-piece-requires
 pass-piece-requires c κs =
-    let the-args = c .before .before .before .before .before .args in
-    let the-pre = c .before .before .before .before .before .pre in
-    let args = the-args in let pre = the-pre in let e = length-take-le (args .k) (args .buf .now) (pre .2) in (pre .0, omega (arith, pre .1))
+    let args = c .before .before .before .before .before .args in
+    let pre = c .before .before .before .before .before .pre in
+    let e = length-take-le (args .k) (args .buf .now) (pre .2) in (pre .0, omega (arith, pre .1))
 
 returns : tie.Need-returns
 returns c =
-    let the-args = c .before .before .before .before .before .before .before .before .before .before .args in
-    let the-pre = c .before .before .before .before .before .before .before .before .before .before .pre in
-    let the-pass-piece = c .before .before .before .before .pass-piece in
-    let args = the-args in let pre = the-pre in let pass-piece = the-pass-piece in piece-front _ _ (args .p) (args .o) (args .k) (args .buf .now) _ (pre .2) (pass-piece .ensures)
+    let args = c .before .before .before .before .before .before .before .before .before .before .args in
+    let pre = c .before .before .before .before .before .before .before .before .before .before .pre in
+    let pass-piece = c .before .before .before .before .pass-piece in
+    piece-front _ _ (args .p) (args .o) (args .k) (args .buf .now) _ (pre .2) (pass-piece .ensures)
 
 pub pass-front-spec : {M : Type 1} → statement M
 pass-front-spec =

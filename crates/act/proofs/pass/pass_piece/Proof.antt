@@ -6,11 +6,11 @@ use Rattle.act.proofs.pass.pass_piece.Tie as tie
 
 returns : tie.Need-returns
 returns c =
-    let the-pre = c .before .before .before .before .before .before .before .before .before .before .before .before .before .before .before .before .before .before .before .pre in
-    let the-mix = c .before .before .before .before .before .before .before .before .before .before .before .mix in
-    let the-write-data = c .before .before .before .before .before .before .before .write-data in
-    let the-lay = c .before .before .lay in
-    let pre = the-pre in let mix = the-mix in let write-data = the-write-data in let lay = the-lay in piece-in-turn _ _ _ _ _ _ _ _ (pre .0) (pre .1) (mix .ensures) (mix .kept .0) (write-data .ensures) (lay .ensures)
+    let pre = c .before .before .before .before .before .before .before .before .before .before .before .before .before .before .before .before .before .before .before .pre in
+    let mix = c .before .before .before .before .before .before .before .before .before .before .before .mix in
+    let write-data = c .before .before .before .before .before .before .before .write-data in
+    let lay = c .before .before .lay in
+    piece-in-turn _ _ _ _ _ _ _ _ (pre .0) (pre .1) (mix .ensures) (mix .kept .0) (write-data .ensures) (lay .ensures)
 
 pub pass-piece-spec : {M : Type 1} → statement M
 pass-piece-spec =

@@ -6,9 +6,9 @@ use Rattle.act.proofs.pass.write_data.Tie as tie
 
 returns : tie.Need-returns
 returns c =
-    let the-if1 = c .before .before .before .before .before .if1 in
-    let the-put-at = c .before .before .put-at in
-    let if1 = the-if1 in let put-at = the-put-at in data-put _ _ _ _ _ _ _ (if1 .taken) (put-at .ensures)
+    let if1 = c .before .before .before .before .before .if1 in
+    let put-at = c .before .before .put-at in
+    data-put _ _ _ _ _ _ _ (if1 .taken) (put-at .ensures)
 
 returns-2 : tie.Need-returns-2
 returns-2 c = data-skip _ _ _ _ _ _ (c .if1 .left)

@@ -1,0 +1,9 @@
+pub mod Listing
+pub mod Sum
+pub mod Turns
+pub mod Tally
+pub mod Whole
+pub mod Lines
+pub mod Shown
+pub mod Fits
+pub mod Bench

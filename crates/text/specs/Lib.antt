@@ -1,0 +1,5 @@
+pub mod Ascii
+pub mod Decimal
+pub mod Hexadecimal
+pub mod Room
+pub mod Lines
