@@ -42,6 +42,10 @@ either-way : (b : Bool) (n : ℕ) → cond b n n ≡ n
 either-way true n = refl
 either-way false n = refl
 
+-- a length other than FFFFFFFFh stays
+pub resolved-same : (n b B : ℕ) → (n ≡ 0xFFFFFFFF → ⊥) → resolvedCount n b B ≡ n
+resolved-same n b B h = rw (ne-eqb n 0xFFFFFFFF h)
+
 module _ (k : Command) (B : ℕ) where
   pub resolved-kept : Kept (resolvedOf k B) k
   unfolding resolvedOf
@@ -55,10 +59,9 @@ module _ (k : Command) (B : ℕ) where
   unfolding resolvedOf
   resolved-count = refl
 
-  -- another length stays
   pub resolved-plain : (k .count ≡ 0xFFFFFFFF → ⊥) → resolvedOf k B ≡ k
   unfolding resolvedOf
-  resolved-plain h = rw (ne-eqb (k .count) 0xFFFFFFFF h)
+  resolved-plain h = rw (resolved-same (k .count) (k .block .0) B h)
 
   -- "to the last block"
   pub resolved-end : k .count ≡ 0xFFFFFFFF → k .block .0 < B → k .block .0 + resolvedOf k B .count ≡ B
@@ -80,6 +83,15 @@ range-words n b B h = pick (eqb n 0xFFFFFFFF) (leb B b) refl refl
     pick false v p q = refl
     pick true true p q = let e : n ≡ 0xFFFFFFFF = eqb-true _ _ p in lt-ltb B (b + n) (omega arith)
     pick true false p q = let l : b < B = leb-false B b q in le-ltb B (b + (B - b)) (omega arith)
+
+-- some blocks stay some
+pub resolved-some : (n b B : ℕ) → (n ≡ 0 → ⊥) → 1 ≤ resolvedCount n b B
+resolved-some n b B z = pick (eqb n 0xFFFFFFFF) (leb B b) refl
+  where
+    pick : (u v : Bool) → leb B b ≡ v → 1 ≤ cond u (cond v n (B - b)) n
+    pick true true w = omega arith
+    pick true false w = let h : b < B = leb-false B b w in omega arith
+    pick false v w = omega arith
 
 -- a length whose range is inside
 pub resolved-small : (n b B : ℕ) → B ≤ 65536 → ltb B (b + resolvedCount n b B) ≡ false → resolvedCount n b B ≤ 65536

@@ -1,4 +1,5 @@
 pub mod Command
 pub mod Flags
 pub mod Length
+pub mod Sent
 pub mod Lossless

@@ -1,6 +1,6 @@
 -- "Marking writes the state byte alone": what an image is after it. Assumes nothing.
-use Prim.Native.Nat.{ℕ, zero, suc, _+_, _≤_, _<_}
-use native.Mathlib.Nat.{add-zero, zero-lt-suc}
+use Prim.Native.Nat.{ℕ, _+_, _≤_, _<_}
+use native.Mathlib.Nat.{add-zero}
 use native.Mathlib.Omega.{arith}
 use mathlib.Core.List.{List, [], _∷_}
 use mathlib.Core.Bool.{true}
@@ -8,7 +8,7 @@ use mathlib.Core.Path.{_≡_, sym, ap, _∙_}
 use mathlib.Core.Logic.{inl, inr, ⊎-elim}
 use lib.ListN.{length, getD}
 use borrow.Author.Tests.{le-leb}
-use Rattle.octets.specs.Octets.{Octets, octets-put}
+use Rattle.octets.specs.Octets.{Octets, octets-one, octets-put}
 use Rattle.octets.specs.Part.{part}
 use Rattle.octets.specs.Put.{put, length-put, getD-put-before, getD-put-in, getD-put-after}
 use Rattle.octets.specs.PutPut.{part-put-above}
@@ -24,10 +24,6 @@ use Rattle.drives.specs.Table.{stateOf, addressOf, statesOk, addressesOk
 use Rattle.drives.specs.Facts.{table-states, table-addresses}
 use Rattle.drives.specs.Front.{drive-ext, addresses-ext}
 
-octet : (x : ℕ) → x < 256 → Octets (x ∷ [])
-octet x h zero = h
-octet x h (suc k) = zero-lt-suc 255
-
 module _ (s : List ℕ) (g : Geometry) (i state : ℕ) where
   pub length-marked : length (marked s g i state) ≡ length s
   unfolding marked
@@ -35,7 +31,7 @@ module _ (s : List ℕ) (g : Geometry) (i state : ℕ) where
 
   pub octets-marked : Octets s → state < 256 → Octets (marked s g i state)
   unfolding marked
-  octets-marked o h = octets-put s (entryAt g i) (state ∷ []) o (octet state h)
+  octets-marked o h = octets-put s (entryAt g i) (state ∷ []) o (octets-one state h)
 
   -- the other drives' states
   pub state-marked-other : (j : ℕ) → (j ≡ i → ⊥) → stateOf (marked s g i state) g j ≡ stateOf s g j

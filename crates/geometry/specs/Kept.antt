@@ -1,6 +1,5 @@
 -- What leaves the header leaves the geometry, and with the length the frame. Assumes nothing.
-use mathlib.Core.Path.{_≡_, ap, ap₂}
-use mathlib.Core.Bool.{Bool}
+use mathlib.Core.Path.{_≡_, ap₂}
 use mathlib.Core.List.{List, [], _∷_}
 use Prim.Native.Nat.{ℕ, _+_, _≤_}
 use native.Mathlib.Omega.{arith}

@@ -1,14 +1,15 @@
 -- Where entries, slots and blocks lie, and that they do not meet. Assumes nothing.
 use mathlib.Core.Path.{_≡_, ap, _∙_}
-use mathlib.Core.Logic.{_⊎_, inl, inr, ⊎-elim}
+use mathlib.Core.Logic.{inl, inr, ⊎-elim}
 use mathlib.Core.List.{List}
-use Prim.Native.Nat.{ℕ, zero, suc, _+_, _*_, _≤_, _<_}
-use native.Mathlib.Nat.{mul-le-mul-right, suc-mul, add-mul}
+use Prim.Native.Nat.{ℕ, suc, _+_, _*_, _≤_, _<_}
+use native.Mathlib.Nat.{mul-le-mul-right, one-mul, suc-mul, add-mul}
 use native.Mathlib.Omega.{arith}
 use lib.ListN.{length}
+use Rattle.octets.specs.Part.{Apart}
 use Rattle.rules.specs.Cases.{apart}
 use Rattle.geometry.specs.declared.Geometry.{Geometry}
-use Rattle.geometry.specs.Header.{slotSize, tableEnd, slotsEnd, endOf, entryAt, slotAt, dataAt, place}
+use Rattle.geometry.specs.Header.{slotSize, tableEnd, endOf, slotAt, dataAt, place}
 use Rattle.geometry.specs.Frame.{InRange, Placed, Framed, slots-small, media-small, blocks-small}
 
 -- ---- slots
@@ -19,7 +20,7 @@ unfolding slotAt
 slot-before g i j l = omega (arith, mul-le-mul-right (slotSize g) l, suc-mul i (slotSize g))
 
 -- two slots do not meet
-pub slots-apart : (g : Geometry) (i j : ℕ) → (i ≡ j → ⊥) → (slotAt g i + slotSize g ≤ slotAt g j) ⊎ (slotAt g j + slotSize g ≤ slotAt g i)
+pub slots-apart : (g : Geometry) (i j : ℕ) → (i ≡ j → ⊥) → Apart (slotAt g i) (slotAt g j) (slotSize g)
 slots-apart g i j ne = ⊎-elim (λ l. inl (slot-before g i j l)) (λ l. inr (slot-before g j i l)) (apart i j ne)
 
 pub slot-after-table : (g : Geometry) (i : ℕ) → Placed g → tableEnd g ≤ slotAt g i
@@ -41,6 +42,10 @@ slot-offset g i r l = omega (arith, mul-le-mul-right (slotSize g) l, suc-mul i (
 pub data-ends : (g : Geometry) (i n : ℕ) → n ≤ g .m → dataAt g i + n * g .l ≤ slotAt g i + slotSize g
 data-ends g i n h = omega (arith, mul-le-mul-right (g .l) h)
 
+-- and within the image
+pub data-in : (s : List ℕ) (g : Geometry) (i n : ℕ) → Framed s g → i < g .s → n ≤ g .m → dataAt g i + n * g .l ≤ length s
+data-in s g i n f l h = omega (arith, slot-room s g i f l, data-ends g i n h)
+
 -- ---- blocks
 
 -- the n blocks of drive d from block b on are the drive's
@@ -60,6 +65,19 @@ module _ (g : Geometry) where
       let a : (d * g .b + b + n) * g .l ≡ (d * g .b + b) * g .l + n * g .l = add-mul (d * g .b + b) n (g .l) in
       let e : d * g .b + (b + n) ≡ d * g .b + b + n = omega arith in
       ap (λ (k : ℕ). g .media + k * g .l) e ∙ omega arith
+
+  -- block r of a drive ends before block q, and starts no later
+  pub block-before : (d r q : ℕ) → r < q → place g d r + g .l ≤ place g d q
+  unfolding place
+  block-before d r q l =
+      let h : suc (d * g .b + r) * g .l ≤ (d * g .b + q) * g .l = mul-le-mul-right (g .l) (omega arith) in
+      omega (arith, suc-mul (d * g .b + r) (g .l))
+
+  pub block-upto : (d r q : ℕ) → r ≤ q → place g d r ≤ place g d q
+  unfolding place
+  block-upto d r q l =
+      let h : (d * g .b + r) * g .l ≤ (d * g .b + q) * g .l = mul-le-mul-right (g .l) (omega arith) in
+      omega arith
 
   -- a range of drive d ends before any block of a later drive
   pub place-before : (d e b b′ n : ℕ) → d < e → b + n ≤ g .b → place g d b + n * g .l ≤ place g e b′
@@ -82,13 +100,17 @@ module _ (g : Geometry) where
       omega arith
 
   -- ranges of two drives do not meet
-  pub places-apart : (d e b b′ n : ℕ) → (d ≡ e → ⊥) → Range g d b n → Range g e b′ n
-      → (place g d b + n * g .l ≤ place g e b′) ⊎ (place g e b′ + n * g .l ≤ place g d b)
+  pub places-apart : (d e b b′ n : ℕ) → (d ≡ e → ⊥) → Range g d b n → Range g e b′ n → Apart (place g d b) (place g e b′) (n * g .l)
   places-apart d e b b′ n ne h k =
       ⊎-elim (λ l. inl (place-before d e b b′ n l (h .range-in))) (λ l. inr (place-before e d b′ b n l (k .range-in))) (apart d e ne)
 
 pub range-room : (s : List ℕ) (g : Geometry) (d b n : ℕ) → Framed s g → Range g d b n → place g d b + n * g .l ≤ length s
 range-room s g d b n f h = omega (arith, place-ends g d b n h, f .length-is)
+
+-- one block
+pub block-room : (s : List ℕ) (g : Geometry) (d b : ℕ) → Framed s g → d < g .d → b < g .b → place g d b + g .l ≤ length s
+block-room s g d b f h k =
+    omega (arith, range-room s g d b 1 f (record { drive-in = h; range-in = omega arith }), one-mul (g .l))
 
 -- how far a block's offset can be
 module _ (g : Geometry) (d b : ℕ) (r : InRange g) (h : d < g .d) (k : b ≤ g .b) where

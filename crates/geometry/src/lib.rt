@@ -27,6 +27,9 @@ pub struct Geometry {
     pub media: usize,
 }
 
+// How many bytes of the table each drive has.
+const STRIDE: usize = 4;
+
 impl Geometry {
     pub fn read(image: &[u8]) -> Geometry
         requires { ⌜ 32 ≤ length (now image) ⌝ }
@@ -92,7 +95,7 @@ impl Geometry {
         let table = self.table;
         let slots = self.slots;
         let media = self.media;
-        let front = 32 + 4 * self.d;
+        let front = 32 + STRIDE * self.d;
         if table != 32 {
             return false;
         }
@@ -118,7 +121,7 @@ impl Geometry {
         requires { ⌜ Placed self × (i < self .d) ⌝ }
         ensures { λ r. ⌜ (r ≡ entryAt self i) × (r + 4 ≤ self .slots) ⌝ }
     {
-        self.table + 4 * i
+        self.table + STRIDE * i
     }
 
     // Where slot i starts.

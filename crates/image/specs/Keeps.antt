@@ -1,28 +1,25 @@
 -- Each change of an image leaves a valid one valid, with the same geometry. Assumes nothing.
-use mathlib.Core.Path.{_≡_, sym, _∙_}
+use mathlib.Core.Path.{_≡_, _∙_}
 use mathlib.Core.Logic.{inl, inr}
 use mathlib.Core.Bool.{true}
 use mathlib.Core.List.{List}
-use Prim.Native.Nat.{ℕ, _+_, _*_, _≤_, _<_}
-use native.Mathlib.Nat.{zero-add, le-refl}
+use Prim.Native.Nat.{ℕ, _*_, _≤_, _<_}
+use native.Mathlib.Nat.{le-refl}
 use native.Mathlib.Omega.{arith}
-use lib.ListN.{length}
-use Rattle.octets.specs.Part.{part}
 use Rattle.octets.specs.Put.{put, length-put}
 use Rattle.rules.specs.declared.Found.the-variants.{At}
 use Rattle.geometry.specs.declared.Geometry.{Geometry}
-use Rattle.geometry.specs.Header.{slotAt, slotSize}
-use Rattle.geometry.specs.Frame.{Placed}
+use Rattle.geometry.specs.Header.{slotSize}
 use Rattle.geometry.specs.Kept.{framed-alike}
+use Rattle.geometry.specs.Outside.{outside-away}
 use Rattle.drives.specs.Table.{marked}
 use Rattle.drives.specs.Front.{front-put}
 use Rattle.drives.specs.Marked.{length-marked, geometry-marked, part-marked, table-marked}
 use Rattle.slots.specs.Record.{slotOf, isUsed}
 use Rattle.slots.specs.Find.{emptySlot}
 use Rattle.slots.specs.Change.{released, dropped}
+use Rattle.slots.specs.Kept.{slotBytes, put-outside, kept-ok}
 use Rattle.results.specs.Results.{Result, Sound, withResult}
-use Rattle.results.specs.Outside.{outside-away}
-use Rattle.results.specs.Kept.{slotBytes, put-outside, kept-ok}
 use Rattle.results.specs.Retain.{length-retained, retain-away, retain-ok}
 use Rattle.results.specs.Release.{length-released, release-part, release-ok}
 use Rattle.results.specs.Drop.{length-dropped, drop-part, drop-ok}

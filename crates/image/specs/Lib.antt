@@ -3,3 +3,4 @@ pub mod Shelf
 pub mod Length
 pub mod Keeps
 pub mod Bench
+pub mod ShutOut

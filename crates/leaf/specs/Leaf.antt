@@ -1,14 +1,17 @@
--- What the exported leaf answers, and what it leaves, for blocks of any two lengths. Assumes nothing.
+-- What the exported leaf answers, and what it leaves, for blocks of any lengths. Assumes nothing.
 use Prim.Native.Nat.{ℕ}
-use mathlib.Core.List.{List}
-use mathlib.Core.Bool.{Bool, cond}
+use mathlib.Core.List.{List, [], _∷_}
+use mathlib.Core.Bool.{Bool, true, false, cond}
 use lib.ListN.{length}
 use lib.Dec.{eqb}
 use Rattle.octets.specs.Xor.{_⊻_}
+use Rattle.octets.specs.Operands.{xorAll}
 
-unfoldable pub sameLength : List ℕ → List ℕ → Bool
-sameLength d s = eqb (length d) (length s)
+-- are all operands as long as d?
+unfoldable pub sameLength : List ℕ → List (List ℕ) → Bool
+sameLength d [] = true
+sameLength d (x ∷ xs) = cond (eqb (length d) (length x)) (sameLength d xs) false
 
--- blocks of two lengths are not XORed
-unfoldable pub xored : List ℕ → List ℕ → List ℕ
-xored d s = cond (sameLength d s) (d ⊻ s) d
+-- blocks of several lengths are not XORed
+unfoldable pub xored : List ℕ → List (List ℕ) → List ℕ
+xored d xs = cond (sameLength d xs) (d ⊻ xorAll xs) d

@@ -4,13 +4,11 @@ use Prim.Native.Nat.{ℕ, zero, suc, _+_, _*_}
 use mathlib.Core.List.{List, [], _∷_, _++_}
 use mathlib.Core.Bool.{cond}
 use lib.Dec.{eqb}
-use lib.ListN.{length}
 use Rattle.octets.specs.Part.{part}
 use Rattle.octets.specs.Put.{put}
 use Rattle.octets.specs.Xor.{_⊻_}
 use Rattle.octets.specs.Operands.{xorAll}
-use Rattle.rules.specs.declared.Found.{Found}
-use Rattle.rules.specs.declared.Found.the-variants.{At, Nothing}
+use Rattle.rules.specs.Least.{index}
 use Rattle.geometry.specs.declared.Geometry.{Geometry}
 use Rattle.geometry.specs.Header.{slotAt, dataAt, place}
 use Rattle.drives.specs.Table.{driveOf}
@@ -70,10 +68,6 @@ abbrev pub written : Geometry → Span → ℕ → List ℕ → List Store
 written g x ndisc sent = cond (eqb ndisc 0) (store (spanAt g x) sent ∷ []) []
 
 -- ---- REBUILD and REGENERATE
-
-abbrev pub index : Found → ℕ
-index (At i) = i
-index Nothing = 0
 
 -- the blocks that source entry i names
 abbrev pub sourceBlocks : List ℕ → Geometry → List ℕ → ℕ → ℕ → List ℕ

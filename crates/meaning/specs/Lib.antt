@@ -1,5 +1,6 @@
 pub mod Acts
 pub mod Allowed
+pub mod Lengths
 pub mod Sources
 pub mod Checks
 pub mod Step

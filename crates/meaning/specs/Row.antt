@@ -1,6 +1,6 @@
 -- A row of a table of examples: calls on an image, the last a command, and what it answers and leaves. Assumes nothing.
 use Prim.Native.Nat.{ℕ}
-use mathlib.Core.List.{List, [], _∷_, _++_, map}
+use mathlib.Core.List.{List, _∷_}
 use lib.ListN.{replicate}
 use Rattle.sense.specs.Answers.{numberOf}
 use Rattle.meaning.specs.Step.{stepImage, stepRoom, stepOutcome}

@@ -6,7 +6,7 @@ use lib.Dec.{ltb}
 use lib.ListN.{length}
 use Rattle.octets.specs.Put.{put}
 use Rattle.rules.specs.Rule.{rule, first}
-use Rattle.geometry.specs.declared.Geometry.{Geometry}
+use Rattle.rules.specs.Least.{index}
 use Rattle.geometry.specs.Header.{geometryOf}
 use Rattle.drives.specs.Table.{driveOf, marked}
 use Rattle.slots.specs.Change.{dropped}
@@ -18,7 +18,7 @@ use Rattle.meaning.specs.declared.Seen.{Seen}
 use Rattle.meaning.specs.declared.Seen.the-variants.{Dash}
 use Rattle.meaning.specs.declared.Decision.{Decision}
 use Rattle.meaning.specs.declared.Decision.the-variants.{Stop, Go}
-use Rattle.meaning.specs.Acts.{index, leaves, hands}
+use Rattle.meaning.specs.Acts.{leaves, hands}
 use Rattle.meaning.specs.Checks.{Check, calls, decideOf}
 
 -- ---- a step: image m, target address a, CDB c, data-out bytes s, receive room r

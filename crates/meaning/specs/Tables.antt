@@ -1,6 +1,6 @@
 -- The tables of examples hold, by computation. Assumes nothing.
 use mathlib.Core.Path.{_≡_, refl}
-use mathlib.Core.List.{List, map}
+use mathlib.Core.List.{map}
 use Rattle.octets.specs.Part.{part}
 use Rattle.octets.specs.Put.{put}
 use Rattle.octets.specs.Xor.{_⊻_}
@@ -23,7 +23,7 @@ use Rattle.meaning.specs.Acts.{sourcesFrom, gathered}
 use Rattle.meaning.specs.Sources.{ownEntry, driveBad, entryBad, firstBad}
 use Rattle.meaning.specs.Checks.{decideOf}
 use Rattle.meaning.specs.Step.{stepImage, stepRoom, stepOutcome, resetImage, resetAnswer, markImage, markAnswer}
-use Rattle.meaning.specs.Row.{Row, Seen, got}
+use Rattle.meaning.specs.Row.{Row, got}
 use Rattle.meaning.specs.Cases.{table}
 use Rattle.meaning.specs.Several.{several}
 

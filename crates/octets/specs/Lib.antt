@@ -2,6 +2,7 @@ pub mod Bits
 pub mod Part
 pub mod Put
 pub mod PutPut
+pub mod Pieces
 pub mod Xor
 pub mod Operands
 pub mod Octets

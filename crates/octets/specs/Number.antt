@@ -5,7 +5,7 @@ use Prim.Native.Nat.{ℕ, zero, suc, _+_, _*_, _/_, _%_, _^_, _≤_, _<_}
 use native.Mathlib.Nat.{suc-inj, pow-suc, pow-succ', mod-eq-of-lt, zero-lt-suc, mod-lt, mod-one, mul-assoc, zero-add}
 use native.Mathlib.Omega.{arith}
 use mathlib.Core.List.{List, [], _∷_, _++_}
-use lib.ListN.{length, getD, length-append}
+use lib.ListN.{length, length-append}
 use lib.Arith.{digits-lt, digits-div, digits-mod, mod-mul}
 use Rattle.octets.specs.Octets.{Octets, octets-tail, octets-part}
 use Rattle.octets.specs.Part.{part, length-part, part-part}

@@ -1,12 +1,13 @@
 -- The XOR of a list of operands. Assumes nothing.
 use mathlib.Core.Path.{_≡_, refl, sym, ap, ap₂, _∙_}
-use Prim.Native.Nat.{ℕ, zero, suc, _+_, _≤_, _<_}
+use Prim.Native.Nat.{ℕ, suc, _≤_, _<_}
+use native.Mathlib.Nat.{not-suc-le-zero}
 use native.Mathlib.Omega.{arith}
 use mathlib.Core.List.{List, [], _∷_, _++_, map, List·Permᴰ, List·Permᴰ·nil, List·Permᴰ·cons, List·Permᴰ·swap, List·Permᴰ·trans}
-use lib.ListN.{length, take}
-use lib.Seq.{take-nil, drop-nil}
-use Rattle.octets.specs.Part.{part}
-use Rattle.octets.specs.Xor.{_⊻_, nil-xor, xor-nil, length-xor, length-xor-le, xor-commutes, xor-regroups, part-xor}
+use lib.Bits.{bitXor}
+use lib.ListN.{length, getD, set, take}
+use Rattle.octets.specs.Part.{part, part-nil}
+use Rattle.octets.specs.Xor.{_⊻_, nil-xor, xor-nil, getD-xor, length-xor, length-xor-le, xor-commutes, xor-regroups, part-xor, xor-more}
 
 -- all operands together; of none, the empty list, which XORs as zeros
 unfoldable pub xorAll : List (List ℕ) → List ℕ
@@ -26,6 +27,23 @@ unfolding xorAll
 xorAll-append [] ys = sym (nil-xor (xorAll ys))
 xorAll-append (x ∷ xs) ys = ap (_⊻_ x) (xorAll-append xs ys) ∙ sym (xor-regroups x (xorAll xs) (xorAll ys))
 
+-- byte i of the XOR of four
+getD-four : (a b c d : List ℕ) (i : ℕ)
+    → getD (xorAll (a ∷ b ∷ c ∷ d ∷ [])) i 0 ≡ bitXor (getD a i 0) (bitXor (getD b i 0) (bitXor (getD c i 0) (getD d i 0)))
+unfolding xorAll
+getD-four a b c d i =
+    getD-xor a (b ⊻ (c ⊻ (d ⊻ []))) i
+    ∙ ap (bitXor (getD a i 0))
+    (getD-xor b (c ⊻ (d ⊻ [])) i ∙ ap (bitXor (getD b i 0)) (getD-xor c (d ⊻ []) i ∙ ap (λ (r : List ℕ). bitXor (getD c i 0) (getD r i 0)) (xor-nil d)))
+
+-- a turn of the loop that XORs four at once
+pub xor-four-more : (x a b c d : List ℕ) (j : ℕ) → j < length x → j < length (xorAll (a ∷ b ∷ c ∷ d ∷ []))
+    → set (x ⊻ take j (xorAll (a ∷ b ∷ c ∷ d ∷ []))) j (bitXor (getD (x ⊻ take j (xorAll (a ∷ b ∷ c ∷ d ∷ []))) j 0) (bitXor (getD a j 0) (bitXor (getD b j 0) (bitXor (getD c j 0) (getD d j 0)))))
+    ≡ x ⊻ take (suc j) (xorAll (a ∷ b ∷ c ∷ d ∷ []))
+xor-four-more x a b c d j hx hs =
+    let s = xorAll (a ∷ b ∷ c ∷ d ∷ []) in
+    ap (λ (v : ℕ). set (x ⊻ take j s) j (bitXor (getD (x ⊻ take j s) j 0) v)) (sym (getD-four a b c d j)) ∙ xor-more x s j hx hs
+
 -- the order of the operands does not matter
 pub xorAll-perm : {xs ys : List (List ℕ)} → List·Permᴰ xs ys → xorAll xs ≡ xorAll ys
 unfolding xorAll
@@ -43,6 +61,10 @@ abbrev pub Long : ℕ → List (List ℕ) → Type 0
 Long n [] = Unit {0}
 Long n (x ∷ xs) = (length x ≡ n) × Long n xs
 
+pub long-append : (n : ℕ) (xs ys : List (List ℕ)) → Long n xs → Long n ys → Long n (xs ++ ys)
+long-append n [] ys h k = k
+long-append n (x ∷ xs) ys h k = (h .0, long-append n xs ys (h .1) k)
+
 pub length-xorAll-le : (n : ℕ) (xs : List (List ℕ)) → Long n xs → length (xorAll xs) ≤ n
 unfolding xorAll
 length-xorAll-le n [] h = omega arith
@@ -52,15 +74,15 @@ pub length-xorAll : (n : ℕ) (x : List ℕ) (xs : List (List ℕ)) → Long n (
 unfolding xorAll
 length-xorAll n x xs h = let l : length (xorAll xs) ≤ n = length-xorAll-le n xs (h .1) in length-xor-le x (xorAll xs) (omega (arith, h .0)) ∙ h .0
 
+pub length-xorAll-some : (n : ℕ) (xs : List (List ℕ)) → 1 ≤ length xs → Long n xs → length (xorAll xs) ≡ n
+length-xorAll-some n [] l h = absurd (not-suc-le-zero l)
+length-xorAll-some n (x ∷ xs) l h = length-xorAll n x xs h
+
 -- a part of the XOR is the XOR of the operands' parts
 unfoldable pub partsOf : ℕ → ℕ → List (List ℕ) → List (List ℕ)
 partsOf at n xs = map (λ (x : List ℕ). part x at n) xs
 
-part-none : (at n : ℕ) → part [] at n ≡ []
-unfolding part
-part-none at n = ap (take n) (drop-nil at) ∙ take-nil n
-
 pub part-xorAll : (xs : List (List ℕ)) (at n : ℕ) → part (xorAll xs) at n ≡ xorAll (partsOf at n xs)
 unfolding xorAll partsOf
-part-xorAll [] at n = part-none at n
+part-xorAll [] at n = part-nil at n
 part-xorAll (x ∷ xs) at n = part-xor x (xorAll xs) at n ∙ ap (_⊻_ (part x at n)) (part-xorAll xs at n)

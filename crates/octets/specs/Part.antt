@@ -1,20 +1,29 @@
 -- A part of a list of bytes, and its laws. Assumes nothing.
-use mathlib.Core.Path.{_≡_, sym, ap, _∙_}
+use mathlib.Core.Path.{_≡_, refl, sym, ap, _∙_}
+use mathlib.Core.Logic.{_⊎_}
 use Prim.Native.Nat.{ℕ, zero, suc, _+_, _-_, _≤_, _<_}
-use native.Mathlib.Nat.{zero-add}
+use native.Mathlib.Nat.{zero-add, le-refl, le-of-suc-le-suc, not-suc-le-zero}
 use native.Mathlib.Numerals.{add-one}
 use native.Mathlib.Omega.{arith}
 use mathlib.Core.List.{List, [], _∷_, _++_}
-use lib.ListN.{length, getD, take, drop, length-take, length-drop}
-use lib.Seq.{getD-take, getD-drop, take-take, drop-drop, take-nil, take-add, drop-cons, take-length, take-at}
+use lib.ListN.{length, getD, take, drop, replicate, length-take, length-drop, drop-of-length-le}
+use lib.Seq.{getD-take, getD-drop, take-take, drop-drop, take-nil, take-add, drop-cons, take-all, take-length, take-at, drop-at}
 
 -- the n bytes from index at on, or as many as there are
 unfoldable pub part : List ℕ → ℕ → ℕ → List ℕ
 part xs at n = take n (drop at xs)
 
+-- two ranges of n bytes do not meet
+abbrev pub Apart : ℕ → ℕ → ℕ → Type 0
+Apart a b n = (a + n ≤ b) ⊎ (b + n ≤ a)
+
 pub length-part : (xs : List ℕ) (at n : ℕ) → at + n ≤ length xs → length (part xs at n) ≡ n
 unfolding part
 length-part xs at n h = simp (length-take, length-drop) (omega arith)
+
+pub length-part-le : (xs : List ℕ) (at n : ℕ) → length (part xs at n) ≤ n
+unfolding part
+length-part-le xs at n = simp (length-take, length-drop) (omega arith)
 
 pub getD-part : (xs : List ℕ) (at n j : ℕ) → j < n → getD (part xs at n) j 0 ≡ getD xs (at + j) 0
 unfolding part
@@ -48,9 +57,33 @@ pub part-snoc : (xs : List ℕ) (at n : ℕ) → at + n < length xs → part xs 
 unfolding part
 part-snoc xs at n h = part-add xs at n 1 ∙ ap (λ (r : List ℕ). part xs at n ++ r) (part-cons xs (at + n) 0 h)
 
-pub part-all : (xs : List ℕ) → part xs 0 (length xs) ≡ xs
+-- the first n bytes of a list that has no more are all of it
+pub part-whole : (xs : List ℕ) (n : ℕ) → length xs ≤ n → part xs 0 n ≡ xs
 unfolding part
-part-all xs = take-length xs
+part-whole xs n h = take-all n xs h
+
+pub part-all : (xs : List ℕ) → part xs 0 (length xs) ≡ xs
+part-all xs = part-whole xs (length xs) (le-refl (length xs))
+
+-- past the end there is nothing
+pub part-past : (xs : List ℕ) (at n : ℕ) → length xs ≤ at → part xs at n ≡ []
+unfolding part
+part-past xs at n h = ap (take n) (drop-of-length-le xs h) ∙ take-nil n
+
+pub part-nil : (at n : ℕ) → part [] at n ≡ []
+part-nil at n = part-past [] at n (omega arith)
+
+-- a part of zeros
+take-zeros : (n m : ℕ) → n ≤ m → take {A = ℕ} n (replicate m 0) ≡ replicate n 0
+take-zeros zero m h = refl
+take-zeros (suc n) zero h = absurd (not-suc-le-zero h)
+take-zeros (suc n) (suc m) h = ap (λ (r : List ℕ). 0 ∷ r) (take-zeros n m (le-of-suc-le-suc h))
+
+pub part-zeros : (m at n : ℕ) → at + n ≤ m → part (replicate m 0) at n ≡ replicate n 0
+unfolding part
+part-zeros m zero n h = take-zeros n m (omega arith)
+part-zeros zero (suc at) n h = absurd (let z : suc at + n ≤ 0 = h in omega arith)
+part-zeros (suc m) (suc at) n h = part-zeros m at n (let z : suc at + n ≤ suc m = h in omega arith)
 
 -- what a shared `&xs[at..at + n]` is to the borrow checker
 pub mid-part : (xs : List ℕ) (at n : ℕ) → take (at + n - at) (drop at xs) ≡ part xs at n
@@ -64,10 +97,14 @@ rest-part xs at n h =
     let l : length (drop at xs) ≡ n = length-drop at xs ∙ omega arith in
     sym (ap (λ (k : ℕ). take k (drop at xs)) (sym l) ∙ take-length (drop at xs))
 
--- the front of two joined lists
+-- the front and the end of two joined lists
 pub part-append-front : (xs ys : List ℕ) (n : ℕ) → length xs ≡ n → part (xs ++ ys) 0 n ≡ xs
 unfolding part
 part-append-front xs ys n e = take-at xs ys n e
+
+pub part-append-back : (xs ys : List ℕ) (n m : ℕ) → length xs ≡ n → length ys ≡ m → part (xs ++ ys) n m ≡ ys
+unfolding part
+part-append-back xs ys n m e d = rw (drop-at xs ys n e, ← d) (take-length ys)
 
 -- two lists with the same front have the same bytes there
 pub front-byte : (s t : List ℕ) (n : ℕ) → part s 0 n ≡ part t 0 n → (i : ℕ) → i < n → getD s i 0 ≡ getD t i 0

@@ -3,10 +3,11 @@ use mathlib.Core.Path.{_≡_, refl, sym, ap, _∙_}
 use mathlib.Core.Logic.{_⊎_, ⊎-elim}
 use Prim.Native.Nat.{ℕ, zero, suc, _+_, _-_, _≤_, _<_, zero-le}
 use native.Mathlib.Nat.{le-of-suc-le-suc, not-suc-le-zero, suc-add, zero-add, le-refl}
+use native.Mathlib.Numerals.{add-one}
 use native.Mathlib.Omega.{arith}
 use mathlib.Core.List.{List, [], _∷_, _++_}
 use lib.ListN.{length, getD, set, take, drop, length-drop}
-use lib.Seq.{length-take-le, take-suc}
+use lib.Seq.{length-take-le, take-suc, take-all}
 use Rattle.octets.specs.Part.{part, length-part, part-part}
 use Rattle.octets.specs.Put.{put, length-put, put-nil, set-put, take-put, drop-put, drop-put-in, take-put-in}
 
@@ -114,11 +115,25 @@ put-inner xs at n b ys hx hy =
     ∙ sym (put-cover xs (at + b) ys at (part w at n) (omega arith) (omega arith))
     ∙ put-part w at n
 
--- a turn of the loop that copies: the store takes j bytes written to j + 1
+-- ---- a loop that copies s into d from index at on: x is what it has made of d after j turns
+
+module _ (d : List ℕ) (at : ℕ) (s : List ℕ) (j : ℕ) (x : List ℕ) (e : x ≡ put d at (take j s)) where
+  -- one turn more
+  pub put-next : j < length s → set x (at + j) (getD s j 0) ≡ put d at (take (j + 1) s)
+  put-next h =
+      let t : List ℕ = take j s in
+      let l : j ≡ length t = sym (length-take-le j s (omega arith)) in
+      let b : List ℕ = getD s j 0 ∷ [] in
+      set-put x (at + j) (getD s j 0)
+      ∙ ap (λ (y : List ℕ). put y (at + j) b) e
+      ∙ ap (λ (k : ℕ). put (put d at t) (at + k) b) l
+      ∙ sym (put-append d at t b)
+      ∙ ap (put d at) (rw add-one (sym (take-suc s j 0 h)))
+
+  -- after the last
+  pub put-done : {n : ℕ} → length s ≡ n → n ≤ j → x ≡ put d at s
+  put-done l h = e ∙ ap (put d at) (take-all j s (omega arith))
+
+-- over the front of d
 pub put-more : (d s : List ℕ) (j : ℕ) → j < length s → set (put d 0 (take j s)) j (getD s j 0) ≡ put d 0 (take (suc j) s)
-put-more d s j h =
-    let l : j ≡ 0 + length (take j s) = let k = length-take-le j s (omega arith) in omega arith in
-    set-put (put d 0 (take j s)) j (getD s j 0)
-    ∙ ap (λ (k : ℕ). put (put d 0 (take j s)) k (getD s j 0 ∷ [])) l
-    ∙ sym (put-append d 0 (take j s) (getD s j 0 ∷ []))
-    ∙ ap (put d 0) (sym (take-suc s j 0 h))
+put-more d s j h = rw (zero-add, add-one) at (put-next d 0 s j (put d 0 (take j s)) refl h)

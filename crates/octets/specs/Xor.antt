@@ -1,7 +1,7 @@
 -- The XOR of two lists of bytes. The shorter counts as filled up with zeros, so that every law but those on zeros holds with no
 -- condition on lengths. Assumes nothing.
 use mathlib.Core.Path.{_≡_, refl, sym, ap, ap₂, _∙_}
-use Prim.Native.Nat.{ℕ, zero, suc, _+_, _≤_, _<_, max}
+use Prim.Native.Nat.{ℕ, zero, suc, _≤_, _<_, max}
 use native.Mathlib.Nat.{le-of-suc-le-suc, not-suc-le-zero, max-zero, zero-max, suc-max-suc}
 use native.Mathlib.Omega.{arith}
 use mathlib.Core.List.{List, [], _∷_, _++_}
@@ -79,6 +79,14 @@ zeros-xor xs n h = xor-commutes (replicate n 0) xs ∙ xor-zeros xs n h
 -- what is XORed in twice is gone
 pub xor-cancels : (xs ys : List ℕ) → length ys ≤ length xs → (xs ⊻ ys) ⊻ ys ≡ xs
 xor-cancels xs ys h = xor-regroups xs ys ys ∙ ap (_⊻_ xs) (xor-itself ys) ∙ xor-zeros xs (length ys) h
+
+-- what both have is gone
+pub xor-meets : (xs ys zs : List ℕ) → length ys ≤ length xs → (xs ⊻ ys) ⊻ (ys ⊻ zs) ≡ xs ⊻ zs
+xor-meets xs ys zs h = sym (xor-regroups (xs ⊻ ys) ys zs) ∙ ap (λ (r : List ℕ). r ⊻ zs) (xor-cancels xs ys h)
+
+-- what is XORed with itself and more leaves the rest
+pub xor-again : (xs ys : List ℕ) → length xs ≤ length ys → xs ⊻ (xs ⊻ ys) ≡ ys
+xor-again xs ys h = xor-commutes xs (xs ⊻ ys) ∙ ap (λ (r : List ℕ). r ⊻ xs) (xor-commutes xs ys) ∙ xor-cancels ys xs h
 
 -- two equal XORs with one operand in common have equal other operands
 pub xor-injective : (p xs ys : List ℕ) → length xs ≡ length p → length ys ≡ length p → xs ⊻ p ≡ ys ⊻ p → xs ≡ ys

@@ -14,11 +14,13 @@ pub use number::put_be2;
 pub use number::put_be3;
 pub use number::put_be4;
 ghost use mathlib.Core.Path.{_≡_};
-ghost use Prim.Native.Nat.{_+_, _≤_};
+ghost use mathlib.Core.List.{[], _∷_};
+ghost use Prim.Native.Nat.{_+_, _≤_, min};
 ghost use lib.ListN.{length, replicate};
 ghost use Rattle.octets.specs.Part.{part};
 ghost use Rattle.octets.specs.Put.{put};
 ghost use Rattle.octets.specs.Xor.{_⊻_};
+ghost use Rattle.octets.specs.Operands.{xorAll};
 
 // XORs src into dst. It has no locals but an index, so its stack does not grow with the block.
 pub fn xor_into(dst: &mut [u8], src: &[u8])
@@ -29,6 +31,19 @@ pub fn xor_into(dst: &mut [u8], src: &[u8])
     let mut i = 0;
     while i < n {
         dst[i] = dst[i] ^ src[i];
+        i += 1;
+    }
+}
+
+// XORs a, b, c and d into dst, in one pass over it: dst is loaded and stored once, not four times.
+pub fn xor_four_into(dst: &mut [u8], a: &[u8], b: &[u8], c: &[u8], d: &[u8])
+    requires { ⌜ (length (now dst) ≡ length (now a)) × (length (now dst) ≡ length (now b)) × (length (now dst) ≡ length (now c)) × (length (now dst) ≡ length (now d)) ⌝ }
+    ensures { λ _. ⌜ now (dst .exit) ≡ now (dst .entry) ⊻ xorAll (now (a .entry) ∷ now (b .entry) ∷ now (c .entry) ∷ now (d .entry) ∷ []) ⌝ }
+{
+    let n = dst.len();
+    let mut i = 0;
+    while i < n {
+        dst[i] = dst[i] ^ (a[i] ^ (b[i] ^ (c[i] ^ d[i])));
         i += 1;
     }
 }
@@ -93,6 +108,21 @@ pub fn xor_from(acc: &mut [u8], xs: &[u8], at: usize)
     xor_into(acc, &xs[at..at + n]);
 }
 
+// XORs the bytes of xs from four indices on into acc.
+pub fn xor_four_from(acc: &mut [u8], xs: &[u8], a: usize, b: usize, c: usize, d: usize)
+    requires { ⌜ (a + length (now acc) ≤ length (now xs)) × (b + length (now acc) ≤ length (now xs)) × (c + length (now acc) ≤ length (now xs)) × (d + length (now acc) ≤ length (now xs)) ⌝ }
+    ensures { λ _. ⌜ now (acc .exit) ≡ now (acc .entry) ⊻ xorAll (part (now (xs .entry)) a (length (now (acc .entry))) ∷ part (now (xs .entry)) b (length (now (acc .entry))) ∷ part (now (xs .entry)) c (length (now (acc .entry))) ∷ part (now (xs .entry)) d (length (now (acc .entry))) ∷ []) ⌝ }
+{
+    let n = acc.len();
+    xor_four_into(
+        acc,
+        &xs[a..a + n],
+        &xs[b..b + n],
+        &xs[c..c + n],
+        &xs[d..d + n],
+    );
+}
+
 // Copies the bytes of xs from index at on over acc.
 pub fn copy_from(acc: &mut [u8], xs: &[u8], at: usize)
     requires { ⌜ at + length (now acc) ≤ length (now xs) ⌝ }
@@ -100,4 +130,11 @@ pub fn copy_from(acc: &mut [u8], xs: &[u8], at: usize)
 {
     let n = acc.len();
     copy_into(acc, &xs[at..at + n]);
+}
+
+// The smaller number.
+pub fn least(a: usize, b: usize) -> usize
+    ensures { λ r. ⌜ r ≡ min a b ⌝ }
+{
+    if a < b { a } else { b }
 }

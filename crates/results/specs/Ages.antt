@@ -5,11 +5,9 @@ use mathlib.Core.Path.{_≡_}
 use mathlib.Core.Bool.{not}
 use mathlib.Core.List.{List, [], _∷_}
 use lib.Dec.{eqb}
-use Rattle.rules.specs.declared.Found.{Found}
-use Rattle.rules.specs.declared.Found.the-variants.{At, Nothing}
 use Rattle.rules.specs.Every.{every}
 use Rattle.rules.specs.Count.{countBelow}
-use Rattle.rules.specs.Least.{leastBelow}
+use Rattle.rules.specs.Least.{index, leastBelow}
 use Rattle.geometry.specs.declared.Geometry.{Geometry}
 use Rattle.slots.specs.declared.Slot.{Slot}
 use Rattle.slots.specs.Record.{zeroSlot}
@@ -18,14 +16,9 @@ use Rattle.slots.specs.Facts.{usedIn}
 use Rattle.slots.specs.Change.{entry}
 use Rattle.results.specs.Lists.{keeping}
 
--- what was found, or 0
-abbrev pub orZero : Found → ℕ
-orZero (At i) = i
-orZero Nothing = 0
-
 -- the slot of rank n, or 0 where none has it
 unfoldable pub slotRanked : Geometry → (ℕ → Slot) → ℕ → ℕ
-slotRanked g f n = orZero (leastBelow (g .s) (λ i. hasRank n (f i)))
+slotRanked g f n = index (leastBelow (g .s) (λ i. hasRank n (f i)))
 
 -- the slots of ranks n, n - 1, .. 1
 unfoldable pub agesTo : Geometry → (ℕ → Slot) → ℕ → List ℕ

@@ -10,7 +10,7 @@ use mathlib.Core.List.{List, [], _∷_}
 use lib.Dec.{ltb}
 use borrow.Author.Tests.{ltb-true, lt-ltb}
 use Rattle.rules.specs.declared.Found.the-variants.{At, Nothing}
-use Rattle.rules.specs.Cases.{either, order, last-or-below}
+use Rattle.rules.specs.Cases.{either, on-test, order, last-or-below}
 use Rattle.rules.specs.Every.{every, holds, every-of}
 use Rattle.rules.specs.Least.{at-nothing, at-same}
 use Rattle.geometry.specs.declared.Geometry.{Geometry}
@@ -19,8 +19,7 @@ use Rattle.slots.specs.Record.{slotOf}
 use Rattle.slots.specs.Slots.{slotsOk}
 use Rattle.slots.specs.Facts.{right}
 use Rattle.slots.specs.Find.{wanted, better, bestOf, newestOf}
-use Rattle.results.specs.Lists.{on-test}
-use Rattle.results.specs.Ranks.{used-at}
+use Rattle.slots.specs.Ranks.{used-at}
 
 -- slot i is wanted, and no wanted slot has a higher rank
 pub record Newest (s : List ℕ) (g : Geometry) (drive block i : ℕ) : Type 0 where

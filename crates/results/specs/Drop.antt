@@ -12,18 +12,18 @@ use lib.Dec.{eqb}
 use lib.ListN.{length}
 use borrow.Author.Tests.{eqb-true, eq-eqb, ne-eqb, not-false}
 use Rattle.octets.specs.Part.{part}
-use Rattle.rules.specs.Cases.{last-or-below}
+use Rattle.rules.specs.Cases.{on-test, last-or-below}
 use Rattle.rules.specs.Every.{holds, every-of, fails}
 use Rattle.geometry.specs.declared.Geometry.{Geometry}
 use Rattle.geometry.specs.Frame.{Framed, framed-same}
+use Rattle.geometry.specs.Outside.{Outside}
 use Rattle.slots.specs.Record.{slotOf}
 use Rattle.slots.specs.Slots.{slotsOk}
 use Rattle.slots.specs.Facts.{right}
 use Rattle.slots.specs.Change.{released, ofDrive, dropOne, droppedTo, dropped}
-use Rattle.results.specs.Lists.{on-test, keeping, keep-all, keep-keep}
+use Rattle.results.specs.Lists.{keeping, keep-all, keep-keep}
 use Rattle.results.specs.Members.{ages-in}
 use Rattle.results.specs.Results.{Result, resultAt, byAge, results}
-use Rattle.results.specs.Outside.{Outside}
 use Rattle.results.specs.Release.{length-released, release-part, release-zeroed, release-slot, release-ok, release-results}
 
 -- a result of another drive

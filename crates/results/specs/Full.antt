@@ -1,17 +1,13 @@
 -- "Something to retain and no empty slot": as many results are retained as there are slots.
 -- Assumes nothing.
-use Prim.Native.Nat.{ℕ, zero, suc, _<_}
-use native.Mathlib.Nat.{not-suc-le-zero}
-use native.Mathlib.Omega.{arith}
-use mathlib.Core.Bool.{Bool, true, false, not}
-use mathlib.Core.Path.{_≡_, refl, sym, ap, _∙_}
-use mathlib.Core.Logic.{⊎-elim}
+use Prim.Native.Nat.{ℕ, _<_}
+use mathlib.Core.Bool.{true, not}
+use mathlib.Core.Path.{_≡_, _∙_}
 use mathlib.Core.List.{List}
 use lib.ListN.{length, length-map}
 use borrow.Author.Tests.{not-false}
 use Rattle.rules.specs.declared.Found.the-variants.{At, Nothing}
-use Rattle.rules.specs.Cases.{either, last-or-below}
-use Rattle.rules.specs.Count.{countBelow, count-le}
+use Rattle.rules.specs.Count.{count-all, count-less}
 use Rattle.rules.specs.Least.{least-nothing}
 use Rattle.geometry.specs.declared.Geometry.{Geometry}
 use Rattle.slots.specs.Record.{slotOf, isUsed}
@@ -20,22 +16,6 @@ use Rattle.slots.specs.Facts.{empty-inside, right}
 use Rattle.slots.specs.Find.{emptySlot}
 use Rattle.results.specs.Members.{length-ages}
 use Rattle.results.specs.Results.{resultAt, byAge, results}
-
-module _ (p : ℕ → Bool) where
-  -- all have p
-  count-all : (n : ℕ) → ((i : ℕ) → i < n → p i ≡ true) → countBelow n p ≡ n
-  unfolding countBelow
-  count-all zero h = refl
-  count-all (suc n) h = rw (h n (omega arith), count-all n (λ i l. h i (omega arith))) (omega arith)
-
-  -- one has not
-  count-less : (n i : ℕ) → i < n → p i ≡ false → countBelow n p < n
-  unfolding countBelow
-  count-less zero i l h = absurd (not-suc-le-zero l)
-  count-less (suc n) i l h =
-      ⊎-elim (λ (e : i ≡ n). rw (ap p (sym e) ∙ h) (omega (arith, count-le p n)))
-      (λ lt. let r = count-less n i lt h in ⊎-elim (λ t. rw t (omega arith)) (λ t. rw t (omega arith)) (either (p n)))
-      (last-or-below l)
 
 module _ (s : List ℕ) (g : Geometry) (ok : slotsOk s g ≡ true) where
   pub length-results : length (results s g) ≡ usedCount s g

@@ -14,8 +14,9 @@ use Rattle.slots.specs.declared.Slot.{Slot}
 use Rattle.slots.specs.Record.{isUsed}
 use Rattle.slots.specs.Slots.{hasRank, slotOk}
 use Rattle.slots.specs.Facts.{Used, used-ok, usedIn, Right}
+use Rattle.slots.specs.Ranks.{has-rank, not-rank, used-is, used-at, used-ranked, empty-any}
 use Rattle.results.specs.Ages.{agesTo, ages}
-use Rattle.results.specs.Ranks.{has-rank, not-rank, used-is, ranked-only, ranked-same, used-at, used-ranked, empty-any, ages-same, ages-more}
+use Rattle.results.specs.Ranks.{ranked-only, ranked-same, ages-same, ages-more}
 
 -- the slots f′ are f with a result in x, which was empty
 pub record Gained (g : Geometry) (f f′ : ℕ → Slot) (x : ℕ) : Type 0 where

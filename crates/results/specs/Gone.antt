@@ -15,9 +15,10 @@ use Rattle.slots.specs.declared.Slot.{Slot}
 use Rattle.slots.specs.Record.{isUsed, zeroSlot}
 use Rattle.slots.specs.Slots.{hasRank, slotOk}
 use Rattle.slots.specs.Facts.{Used, used-ok, empty-is, zero-ok, usedIn, Right}
+use Rattle.slots.specs.Ranks.{has-rank, rank-has, not-rank, used-at, rank-apart, used-ranked}
 use Rattle.results.specs.Lists.{keep-none, keep-hit, keep-miss}
 use Rattle.results.specs.Ages.{slotRanked, agesTo, ages, without}
-use Rattle.results.specs.Ranks.{has-rank, rank-has, not-rank, used-at, rank-apart, ranked-is, ranked-at, ranked-same, used-ranked}
+use Rattle.results.specs.Ranks.{ranked-is, ranked-at, ranked-same}
 use Rattle.results.specs.Lower.{lowerRank, lowerSlot, lower-below, lower-in}
 use Rattle.results.specs.Lower.{rankBefore, before-below, before-above, before-other, lower-before, before-lower}
 

@@ -1,103 +1,28 @@
--- An image whose bytes in the slots are as before has the same slots and the same results.
+-- An image whose bytes in the slots are as before has the same results.
 -- Assumes nothing.
-use Prim.Native.Nat.{ℕ, zero, suc, _+_, _-_, _*_, _≤_, _<_}
-use native.Mathlib.Omega.{arith}
-use mathlib.Core.Bool.{true, not}
-use mathlib.Core.Path.{_≡_, refl, sym, ap, ap₂, _∙_}
-use mathlib.Core.Logic.{inl, inr, ⊎-elim}
+use Prim.Native.Nat.{ℕ, suc}
+use mathlib.Core.Bool.{true}
+use mathlib.Core.Path.{_≡_, ap, _∙_}
 use mathlib.Core.List.{List, map}
-use lib.Dec.{eqb}
-use lib.ListN.{length}
-use Rattle.octets.specs.Part.{part, part-part}
-use Rattle.octets.specs.Put.{put}
-use Rattle.octets.specs.PutPut.{part-put-apart}
-use Rattle.rules.specs.Every.{every-ext}
-use Rattle.rules.specs.All.{allBelow, all-ext}
-use Rattle.rules.specs.Count.{count-ext}
-use Rattle.rules.specs.Least.{least-ext}
 use Rattle.geometry.specs.declared.Geometry.{Geometry}
-use Rattle.geometry.specs.Header.{slotSize, slotAt, dataAt}
 use Rattle.geometry.specs.Frame.{Placed}
-use Rattle.geometry.specs.Places.{slot-after-table, slot-before-media, data-ends}
-use Rattle.slots.specs.declared.Slot.{Slot}
-use Rattle.slots.specs.declared.Best.{Best}
-use Rattle.slots.specs.Record.{recordOf, slotOf, isUsed}
-use Rattle.slots.specs.Slots.{slotOk, usedCount, hasRank, rankCount, eachOk, ranksOk, slotsOk}
+use Rattle.slots.specs.Record.{slotOf}
+use Rattle.slots.specs.Slots.{usedCount, slotsOk}
 use Rattle.slots.specs.Facts.{right}
-use Rattle.slots.specs.Find.{emptySlot, better, bestOf, newestOf}
+use Rattle.slots.specs.Ranks.{used-at}
+use Rattle.slots.specs.Kept.{slotBytes, kept-slot, kept-data, kept-count, kept-has}
 use Rattle.results.specs.Lists.{map-same}
 use Rattle.results.specs.Ages.{agesTo, ages}
-use Rattle.results.specs.Ranks.{used-at, ranked-same, ages-same}
-use Rattle.results.specs.Outside.{Away}
+use Rattle.results.specs.Ranks.{ranked-same, ages-same}
 use Rattle.results.specs.Members.{ages-in}
 use Rattle.results.specs.Results.{resultAt, byAge, results, result-same}
 
--- all slots' bytes
-abbrev pub slotBytes : List ℕ → Geometry → List ℕ
-slotBytes s g = part s (g .slots) (g .s * slotSize g)
-
--- a write that ends before the slots, or starts with the media
-pub put-outside : (s : List ℕ) (g : Geometry) (at : ℕ) (ys : List ℕ) → Placed g → Away g at (length ys)
-    → slotBytes (put s at ys) g ≡ slotBytes s g
-put-outside s g at ys p w =
-    part-put-apart s at ys (g .slots) (g .s * slotSize g) (⊎-elim (λ l. inr l) (λ l. inl (omega (arith, p .slots-is, p .media-is))) w)
-
 module _ (s t : List ℕ) (g : Geometry) (p : Placed g) (e : slotBytes t g ≡ slotBytes s g) where
-  kept-part : (a n : ℕ) → g .slots ≤ a → a + n ≤ g .media → part t a n ≡ part s a n
-  kept-part a n l m =
-      let q : a ≡ g .slots + (a - g .slots) = omega arith in
-      let h : a - g .slots + n ≤ g .s * slotSize g = omega (arith, p .slots-is, p .media-is) in
-      rw q
-      (sym (part-part t (g .slots) (g .s * slotSize g) (a - g .slots) n h)
-      ∙ ap (λ (r : List ℕ). part r (a - g .slots) n) e
-      ∙ part-part s (g .slots) (g .s * slotSize g) (a - g .slots) n h)
-
-  pub kept-slot : (i : ℕ) → i < g .s → slotOf t g i ≡ slotOf s g i
-  unfolding slotOf
-  kept-slot i l =
-      ap recordOf (kept-part (slotAt g i) 16 (omega (arith, slot-after-table g i p, p .slots-is)) (omega (arith, slot-before-media g i p l)))
-
-  pub kept-data : (i n : ℕ) → i < g .s → n ≤ g .m → part t (dataAt g i) (n * g .l) ≡ part s (dataAt g i) (n * g .l)
-  kept-data i n l h =
-      kept-part (dataAt g i) (n * g .l) (omega (arith, slot-after-table g i p, p .slots-is))
-      (omega (arith, data-ends g i n h, slot-before-media g i p l))
-
-  pub kept-count : usedCount t g ≡ usedCount s g
-  kept-count = count-ext _ _ (g .s) (λ i l. ap isUsed (kept-slot i l))
-
-  kept-has : (n i : ℕ) → i < g .s → hasRank n (slotOf t g i) ≡ hasRank n (slotOf s g i)
-  kept-has n i l = ap (hasRank n) (kept-slot i l)
-
-  pub kept-ok : slotsOk t g ≡ slotsOk s g
-  unfolding slotsOk eachOk ranksOk
-  kept-ok =
-      every-ext _ _ (
-        all-ext _ _ (g .s) (λ i l. ap₂ (slotOk g) kept-count (kept-slot i l)),
-        (
-          ap (λ (k : ℕ). allBelow k (λ n. eqb (rankCount t g (n + 1)) 1)) kept-count
-              ∙ all-ext _ _ (usedCount s g) (λ n l. ap (λ (k : ℕ). eqb k 1) (count-ext _ _ (g .s) (kept-has (n + 1)))),
-          tt,
-        ),
-      )
-
-  pub kept-empty : emptySlot t g ≡ emptySlot s g
-  unfolding emptySlot
-  kept-empty = least-ext _ _ (g .s) (λ i l. ap (λ (r : Slot). not (isUsed r)) (kept-slot i l))
-
-  kept-best : (drive block n : ℕ) → n ≤ g .s → bestOf t g drive block n ≡ bestOf s g drive block n
-  unfolding bestOf
-  kept-best drive block zero l = refl
-  kept-best drive block (suc n) l = ap₂ (λ (b : Best) (r : Slot). better drive block b n r) (kept-best drive block n (omega arith)) (kept-slot n l)
-
-  pub kept-newest : (drive block : ℕ) → newestOf t g drive block ≡ newestOf s g drive block
-  unfolding newestOf
-  kept-newest drive block = ap (λ (b : Best). b .found) (kept-best drive block (g .s) (omega arith))
-
   kept-ages : ages g (slotOf t g) ≡ ages g (slotOf s g)
   kept-ages =
-      ap (agesTo g (slotOf t g)) kept-count
+      ap (agesTo g (slotOf t g)) (kept-count s t g p e)
       ∙ ages-same g (slotOf s g) (slotOf t g) (usedCount s g)
-      (λ m l. ranked-same g (slotOf s g) (slotOf t g) (suc m) (suc m) (kept-has (suc m)))
+      (λ m l. ranked-same g (slotOf s g) (slotOf t g) (suc m) (suc m) (kept-has s t g p e (suc m)))
 
   pub kept-results : slotsOk s g ≡ true → results t g ≡ results s g
   unfolding results
@@ -107,4 +32,4 @@ module _ (s t : List ℕ) (g : Geometry) (p : Placed g) (e : slotBytes t g ≡ s
       ∙ map-same (resultAt t g) (resultAt s g) (byAge s g)
       (λ i m. let b = ages-in g (slotOf s g) h i m in
       let w = used-at g (slotOf s g) h i (b .0) (b .1) in
-      result-same s t g i (slotOf s g i .rank) (kept-slot i (b .0)) (kept-data i (slotOf s g i .len) (b .0) (w .len-high)))
+      result-same s t g i (slotOf s g i .rank) (kept-slot s t g p e i (b .0)) (kept-data s t g p e i (slotOf s g i .len) (b .0) (w .len-high)))

@@ -7,7 +7,6 @@ pub mod Lower
 pub mod Gone
 pub mod Members
 pub mod Results
-pub mod Outside
 pub mod Retain
 pub mod Lowered
 pub mod Release

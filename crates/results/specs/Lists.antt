@@ -3,11 +3,7 @@
 use mathlib.Core.Path.{_≡_, refl, sym, ap, ap₂, _∙_}
 use mathlib.Core.Bool.{Bool, true, false, cond}
 use mathlib.Core.List.{List, [], _∷_, map, List·Memᴰ, List·Memᴰ·head, List·Memᴰ·tail}
-
--- the two ways that a test goes
-pub on-test : {A : Type 0} (P : A → Type 0) (b : Bool) {x y : A} → (b ≡ true → P x) → (b ≡ false → P y) → P (cond b x y)
-on-test P true hit miss = hit refl
-on-test P false hit miss = miss refl
+use Rattle.rules.specs.Cases.{on-test}
 
 module _ {A : Type 0} where
   -- those that pass, in order

@@ -12,17 +12,16 @@ use Rattle.octets.specs.Part.{part}
 use Rattle.octets.specs.Put.{put, length-put}
 use Rattle.octets.specs.PutPut.{part-put-apart}
 use Rattle.octets.specs.Number.{toBe, length-toBe}
-use Rattle.rules.specs.Cases.{either, last-or-below}
+use Rattle.rules.specs.Cases.{either, on-test, last-or-below}
 use Rattle.geometry.specs.declared.Geometry.{Geometry}
 use Rattle.geometry.specs.Header.{slotAt}
 use Rattle.geometry.specs.Frame.{Framed}
 use Rattle.geometry.specs.Places.{slot-room}
+use Rattle.geometry.specs.Outside.{Outside}
 use Rattle.slots.specs.Record.{slotOf}
 use Rattle.slots.specs.Change.{lowerOne, lowered}
 use Rattle.slots.specs.Stored.{slot-ranked, slot-other}
-use Rattle.results.specs.Lists.{on-test}
 use Rattle.results.specs.Lower.{lowerRank, lowerSlot}
-use Rattle.results.specs.Outside.{Outside}
 
 module _ (g : Geometry) (rank : ℕ) where
   -- ---- in one slot

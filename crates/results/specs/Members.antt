@@ -13,8 +13,9 @@ use Rattle.geometry.specs.declared.Geometry.{Geometry}
 use Rattle.slots.specs.declared.Slot.{Slot}
 use Rattle.slots.specs.Record.{isUsed}
 use Rattle.slots.specs.Facts.{usedIn, Right}
+use Rattle.slots.specs.Ranks.{used-at}
 use Rattle.results.specs.Ages.{slotRanked, agesTo, ages}
-use Rattle.results.specs.Ranks.{used-at, ranked-is, ranked-at}
+use Rattle.results.specs.Ranks.{ranked-is, ranked-at}
 
 -- slot i is used, and of rank at most n
 pub record Aged (g : Geometry) (f : ℕ → Slot) (n i : ℕ) : Type 0 where

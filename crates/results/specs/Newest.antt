@@ -21,10 +21,11 @@ use Rattle.slots.specs.Slots.{slotsOk}
 use Rattle.slots.specs.Facts.{usedIn, Right, right}
 use Rattle.slots.specs.Find.{wanted, newestOf}
 use Rattle.slots.specs.Change.{released}
+use Rattle.slots.specs.Ranks.{used-at}
 use Rattle.results.specs.Lists.{keep-hit, keep-miss, keep-all}
 use Rattle.results.specs.First.{firstOf, sansFirst, first-hit, first-miss, first-none, first-passes, first-map, sans-hit, sans-miss, sans-map}
 use Rattle.results.specs.Ages.{slotRanked, agesTo, without}
-use Rattle.results.specs.Ranks.{used-at, ranked-is, ranked-at}
+use Rattle.results.specs.Ranks.{ranked-is, ranked-at}
 use Rattle.results.specs.Members.{aged-in, ages-in}
 use Rattle.results.specs.Results.{Result, resultAt, byAge, results}
 use Rattle.results.specs.Best.{newest-at, newest-nothing}

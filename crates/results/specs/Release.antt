@@ -18,20 +18,20 @@ use Rattle.geometry.specs.declared.Geometry.{Geometry}
 use Rattle.geometry.specs.Header.{slotAt, dataAt}
 use Rattle.geometry.specs.Frame.{Framed, framed-same}
 use Rattle.geometry.specs.Places.{slot-room}
+use Rattle.geometry.specs.Outside.{Outside, outside-data}
 use Rattle.slots.specs.declared.Slot.{Slot}
 use Rattle.slots.specs.Record.{slotOf, isUsed, zeroSlot}
 use Rattle.slots.specs.Slots.{usedCount, slotsOk}
 use Rattle.slots.specs.Facts.{empty-is, right, right-ok}
 use Rattle.slots.specs.Change.{released}
 use Rattle.slots.specs.Stored.{slot-zeroed, slot-other}
+use Rattle.slots.specs.Ranks.{used-at}
 use Rattle.results.specs.Lists.{map-keeping}
 use Rattle.results.specs.Ages.{without}
-use Rattle.results.specs.Ranks.{used-at}
 use Rattle.results.specs.Lower.{lowerRank, lowerSlot, lower-below}
 use Rattle.results.specs.Gone.{Lost, gone-count, gone-right, gone-ages}
 use Rattle.results.specs.Members.{ages-in}
 use Rattle.results.specs.Results.{resultAt, byAge, results, result-same}
-use Rattle.results.specs.Outside.{Outside, outside-data}
 use Rattle.results.specs.Lowered.{length-lowered, lowered-part, lowered-below}
 
 pub length-released : (s : List ℕ) (g : Geometry) (x : ℕ) → length (released s g x) ≡ length s

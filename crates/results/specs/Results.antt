@@ -1,7 +1,6 @@
 -- The retained results of an image as a list by age, newest first.
 -- Assumes nothing.
 use Prim.Native.Nat.{ℕ, _+_, _*_, _≤_, _<_}
-use native.Mathlib.Omega.{arith}
 use mathlib.Core.Bool.{true}
 use mathlib.Core.Path.{_≡_, ap, _∙_}
 use mathlib.Core.List.{List, map, List·Memᴰ, Memᴰ·of-map}
@@ -10,15 +9,15 @@ use Rattle.octets.specs.Part.{part, length-part}
 use Rattle.geometry.specs.declared.Geometry.{Geometry}
 use Rattle.geometry.specs.Header.{dataAt}
 use Rattle.geometry.specs.Frame.{Framed}
-use Rattle.geometry.specs.Places.{slot-room, data-ends}
+use Rattle.geometry.specs.Places.{data-in}
 use Rattle.slots.specs.declared.Slot.{Slot}
 use Rattle.slots.specs.Record.{slotOf}
 use Rattle.slots.specs.RecordLaws.{ranked}
 use Rattle.slots.specs.Slots.{usedCount, slotsOk}
 use Rattle.slots.specs.Facts.{Used, right}
 use Rattle.slots.specs.Change.{entry, retained}
+use Rattle.slots.specs.Ranks.{used-at}
 use Rattle.results.specs.Ages.{ages}
-use Rattle.results.specs.Ranks.{used-at}
 use Rattle.results.specs.Members.{ages-in}
 
 -- a result of len blocks of a drive from a block on
@@ -79,8 +78,7 @@ module _ (s : List ℕ) (g : Geometry) (f : Framed s g) (ok : slotsOk s g ≡ tr
         len-low = w .len-low;
         len-high = w .len-high;
         range-in = w .range-in;
-        exact = length-part s (dataAt g i) (slotOf s g i .len * g .l)
-            (omega (arith, data-ends g i (slotOf s g i .len) (w .len-high), slot-room s g i f l));
+        exact = length-part s (dataAt g i) (slotOf s g i .len * g .l) (data-in s g i (slotOf s g i .len) f l (w .len-high));
       }
 
   pub results-sound : (r : Result) → List·Memᴰ r (results s g) → Sound g r

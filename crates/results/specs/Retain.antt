@@ -7,8 +7,7 @@ use mathlib.Core.Path.{_≡_, refl, sym, ap, ap₂, _∙_}
 use mathlib.Core.Logic.{_⊎_, inl, inr, ⊎-elim}
 use mathlib.Core.List.{List, _∷_, _++_, map}
 use lib.ListN.{length, length-append}
-use lib.Seq.{take-length, drop-at}
-use Rattle.octets.specs.Part.{part}
+use Rattle.octets.specs.Part.{part, part-append-back}
 use Rattle.octets.specs.Put.{put, length-put}
 use Rattle.octets.specs.PutPut.{part-put-of, part-put-apart}
 use Rattle.rules.specs.declared.Found.{Found}
@@ -17,7 +16,8 @@ use Rattle.rules.specs.Count.{count-le}
 use Rattle.geometry.specs.declared.Geometry.{Geometry}
 use Rattle.geometry.specs.Header.{slotAt, dataAt}
 use Rattle.geometry.specs.Frame.{Framed}
-use Rattle.geometry.specs.Places.{slots-apart, slot-after-table, slot-before-media, slot-room, data-ends}
+use Rattle.geometry.specs.Places.{slots-apart, slot-after-table, slot-before-media, data-ends, data-in}
+use Rattle.geometry.specs.Outside.{Away}
 use Rattle.slots.specs.declared.Slot.{Slot}
 use Rattle.slots.specs.Record.{slotOf, bytesOf, isUsed}
 use Rattle.slots.specs.RecordLaws.{Small, length-bytes}
@@ -26,17 +26,11 @@ use Rattle.slots.specs.Facts.{Used, empty-inside, right, right-ok}
 use Rattle.slots.specs.Find.{emptySlot}
 use Rattle.slots.specs.Change.{entered, retained}
 use Rattle.slots.specs.Stored.{slot-put, slot-other}
+use Rattle.slots.specs.Ranks.{used-at}
 use Rattle.results.specs.Lists.{map-same}
-use Rattle.results.specs.Ranks.{used-at}
 use Rattle.results.specs.Gain.{Gained, gain-count, gain-right, gain-ages}
 use Rattle.results.specs.Members.{ages-in}
-use Rattle.results.specs.Outside.{Away}
 use Rattle.results.specs.Results.{Result, resultOf, resultAt, byAge, results, recordAt, withResult, Sound, result-same}
-
--- the end of two joined lists
-part-append-back : (xs ys : List ℕ) (n m : ℕ) → length xs ≡ n → length ys ≡ m → part (xs ++ ys) n m ≡ ys
-unfolding part
-part-append-back xs ys n m e d = rw (drop-at xs ys n e, ← d) (take-length ys)
 
 -- its record, and slot x filled with it
 abbrev newRecord : List ℕ → Geometry → Result → Slot
@@ -68,7 +62,7 @@ module _ (s : List ℕ) (g : Geometry) (f : Framed s g) (ok : slotsOk s g ≡ tr
       length-append (bytesOf (newRecord s g r)) (r .bytes) ∙ ap₂ (λ (a b : ℕ). a + b) (length-bytes (newRecord s g r)) (w .exact)
 
   room : slotAt g x + (16 + r .len * g .l) ≤ length s
-  room = omega (arith, data-ends g x (r .len) (w .len-high), slot-room s g x f inside)
+  room = omega (arith, data-in s g x (r .len) f inside (w .len-high))
 
   small : Small (newRecord s g r)
   small =

@@ -6,7 +6,7 @@ use native.Mathlib.Numerals.{add-one}
 use native.Mathlib.Omega.{arith}
 use mathlib.Core.Bool.{Bool, true, false, cond, true≢false}
 use mathlib.Core.Path.{_≡_, refl, sym, ap, ap₂, _∙_}
-use mathlib.Core.Logic.{⊎-elim}
+use mathlib.Core.Logic.{_⊎_, ⊎-elim}
 use Rattle.rules.specs.Cases.{either, last-or-below}
 
 -- how many numbers below n have p
@@ -34,13 +34,6 @@ module _ (p : ℕ → Bool) where
   pub count-miss : (i : ℕ) → p i ≡ false → countBelow (i + 1) p ≡ countBelow i p
   count-miss i h = rw (add-one i) (suc-miss i h)
 
-  -- the same of a loop's own count k
-  pub count-took : (i k k′ : ℕ) → k ≡ countBelow i p → k′ ≡ k + 1 → p i ≡ true → k′ ≡ countBelow (i + 1) p
-  count-took i k k′ e f h = f ∙ ap (λ (x : ℕ). x + 1) e ∙ sym (count-hit i h)
-
-  pub count-kept : (i k k′ : ℕ) → k ≡ countBelow i p → k′ ≡ k → p i ≡ false → k′ ≡ countBelow (i + 1) p
-  count-kept i k k′ e f h = f ∙ e ∙ sym (count-miss i h)
-
   pub count-done : (n i k : ℕ) → k ≡ countBelow i p → i ≤ n → n ≤ i → k ≡ countBelow n p
   count-done n i k e h l = e ∙ ap (λ (x : ℕ). countBelow x p) (omega arith)
 
@@ -48,6 +41,14 @@ module _ (p : ℕ → Bool) where
   unfolding countBelow
   count-le zero = omega arith
   count-le (suc n) = ⊎-elim (λ e. rw e (omega (arith, count-le n))) (λ e. rw e (omega (arith, count-le n))) (either (p n))
+
+  -- a turn of a loop with a count k of its own, by the test b that it made
+  pub count-turn : (i k k′ : ℕ) (b : Bool) → k ≡ countBelow i p → b ≡ p i → ((b ≡ true) × (k′ ≡ k + 1)) ⊎ ((b ≡ false) × (k′ ≡ k))
+      → (k′ ≤ i + 1) × (k′ ≡ countBelow (i + 1) p)
+  count-turn i k k′ b e t w =
+      let q : k′ ≡ countBelow (i + 1) p =
+      ⊎-elim (λ h. h .1 ∙ ap (λ (x : ℕ). x + 1) e ∙ sym (count-hit i (sym t ∙ h .0))) (λ h. h .1 ∙ e ∙ sym (count-miss i (sym t ∙ h .0))) w in
+      (omega (arith, count-le (i + 1)), q)
 
   -- a count that is not 0: some number has p
   pub count-some : (n : ℕ) → 0 < countBelow n p → (i : ℕ) × ((i < n) × (p i ≡ true))
@@ -84,6 +85,21 @@ module _ (p : ℕ → Bool) where
   unfolding countBelow
   count-zero zero h = refl
   count-zero (suc n) h = suc-miss n (h n (omega arith)) ∙ count-zero n (λ i l. h i (omega arith))
+
+  -- all have p
+  pub count-all : (n : ℕ) → ((i : ℕ) → i < n → p i ≡ true) → countBelow n p ≡ n
+  unfolding countBelow
+  count-all zero h = refl
+  count-all (suc n) h = rw (h n (omega arith), count-all n (λ i l. h i (omega arith))) (omega arith)
+
+  -- one has not
+  pub count-less : (n i : ℕ) → i < n → p i ≡ false → countBelow n p < n
+  unfolding countBelow
+  count-less zero i l h = absurd (not-suc-le-zero l)
+  count-less (suc n) i l h =
+      ⊎-elim (λ (e : i ≡ n). rw (ap p (sym e) ∙ h) (omega (arith, count-le n)))
+      (λ lt. let r = count-less n i lt h in ⊎-elim (λ t. rw t (omega arith)) (λ t. rw t (omega arith)) (either (p n)))
+      (last-or-below l)
 
 -- two tests that agree below n
 pub count-ext : (p q : ℕ → Bool) (n : ℕ) → ((i : ℕ) → i < n → p i ≡ q i) → countBelow n p ≡ countBelow n q

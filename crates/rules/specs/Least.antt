@@ -17,6 +17,11 @@ abbrev pub orElse : Found → Found → Found
 orElse (At i) b = At i
 orElse Nothing b = b
 
+-- what was found, or 0
+abbrev pub index : Found → ℕ
+index (At i) = i
+index Nothing = 0
+
 -- the lowest number below n that has p
 unfoldable pub leastBelow : ℕ → (ℕ → Bool) → Found
 leastBelow zero p = Nothing

@@ -4,4 +4,5 @@ pub mod All
 pub mod Count
 pub mod Least
 pub mod Rule
+pub mod Reason
 pub mod Tests

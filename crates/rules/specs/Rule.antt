@@ -25,12 +25,22 @@ module _ {P A : Type 0} where
   AllPass [] = Unit {0}
   AllPass (rule n w b a ∷ rs) = (b ≡ false) × AllPass rs
 
+  pub pass-append : (rs ss : List (Rule P A)) → AllPass rs → AllPass ss → AllPass (rs ++ ss)
+  pass-append [] ss h k = k
+  pass-append (rule n w b a ∷ rs) ss h k = (h .0, pass-append rs ss (h .1) k)
+
   -- every rule before the one that decides passes
   pub earlier : (rs : List (Rule P A)) (x : Rule P A) (i : ℕ) → i < which rs → applies (getD rs i x) ≡ false
   earlier [] x i h = absurd (omega (arith, h))
   earlier (rule n w true a ∷ rs) x i h = absurd (omega (arith, h))
   earlier (rule n w false a ∷ rs) x zero h = refl
   earlier (rule n w false a ∷ rs) x (suc i) h = earlier rs x i (omega (arith, h))
+
+  -- where none applies: each by its place, and past the end an x that does not apply
+  pub pass-at : (rs : List (Rule P A)) (x : Rule P A) → applies x ≡ false → AllPass rs → (i : ℕ) → applies (getD rs i x) ≡ false
+  pass-at [] x h p i = h
+  pass-at (rule n w b a ∷ rs) x h p zero = p .0
+  pass-at (rule n w b a ∷ rs) x h p (suc i) = pass-at rs x h (p .1) i
 
 -- stop makes a decision of a rule that applies
 module _ {P A D : Type 0} (stop : ℕ → P → A → D) where
@@ -54,17 +64,28 @@ module _ {P A D : Type 0} (stop : ℕ → P → A → D) where
   decides (rule n w true a ∷ rs) x d h = (refl, refl)
   decides (rule n w false a ∷ rs) x d h = decides rs x d (omega (arith, h))
 
+  -- where none applies, none decides
+  pub none-decides : (rs : List (Rule P A)) (d : D) → AllPass rs → first rs d ≡ d
+  none-decides [] d h = refl
+  none-decides (rule n w b a ∷ rs) d h = rw (h .0) (none-decides rs d (h .1))
+
   -- a decision that is no stop: every rule has passed
   pub passed : (rs : List (Rule P A)) (d e : D) → ((n : ℕ) (w : P) (a : A) → stop n w a ≡ e → ⊥) → first rs d ≡ e → AllPass rs × (d ≡ e)
   passed [] d e never h = (tt, h)
   passed (rule n w true a ∷ rs) d e never h = absurd (never n w a h)
   passed (rule n w false a ∷ rs) d e never h = let r = passed rs d e never h in ((refl, r .0), r .1)
 
-  -- what holds of every stop, and of d where no rule applies, holds of the decision
-  pub first-cases : (Q : D → Type 0) (rs : List (Rule P A)) (d : D) → ((n : ℕ) (w : P) (a : A) → Q (stop n w a)) → (AllPass rs → Q d) → Q (first rs d)
-  first-cases Q [] d h k = k tt
-  first-cases Q (rule n w true a ∷ rs) d h k = h n w a
-  first-cases Q (rule n w false a ∷ rs) d h k = first-cases Q rs d h (λ p. k (refl, p))
+-- two decisions by one list: what holds of both stops, and of d and e where no rule applies, holds of the two
+pub first-both : {P A D E : Type 0} (stop : ℕ → P → A → D) (halt : ℕ → P → A → E) (Q : D → E → Type 0) (rs : List (Rule P A)) (d : D) (e : E)
+    → ((n : ℕ) (w : P) (a : A) → Q (stop n w a) (halt n w a)) → (AllPass rs → Q d e) → Q (first stop rs d) (first halt rs e)
+first-both stop halt Q [] d e h k = k tt
+first-both stop halt Q (rule n w true a ∷ rs) d e h k = h n w a
+first-both stop halt Q (rule n w false a ∷ rs) d e h k = first-both stop halt Q rs d e h (λ p. k (refl, p))
+
+-- what holds of every stop, and of d where no rule applies, holds of the decision
+pub first-cases : {P A D : Type 0} (stop : ℕ → P → A → D) (Q : D → Type 0) (rs : List (Rule P A)) (d : D)
+    → ((n : ℕ) (w : P) (a : A) → Q (stop n w a)) → (AllPass rs → Q d) → Q (first stop rs d)
+first-cases stop Q rs d h k = first-both stop stop (λ x y. Q x) rs d d h k
 
 -- of rules 1 to 3 the last two apply, and 2 decides
 second : first (λ (n : ℕ) (w a : Bool). n) (rule 1 true false true ∷ rule 2 true true true ∷ rule 3 true true true ∷ []) 0 ≡ 2

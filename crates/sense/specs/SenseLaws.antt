@@ -1,14 +1,14 @@
 -- What the sense of every answer is. Assumes nothing.
 use mathlib.Core.Path.{_≡_, refl, ap₂, _∙_}
-use mathlib.Core.Bool.{Bool, true, false, cond, _&&_, and-eq-true-iff}
+use mathlib.Core.Bool.{true, false, cond}
 use mathlib.Core.List.{List, [], _∷_}
-use Prim.Native.Nat.{ℕ, zero, suc, _+_, _-_}
-use native.Mathlib.Nat.{zero-lt-suc, suc-ne-zero}
+use Prim.Native.Nat.{ℕ, _+_, _-_}
+use native.Mathlib.Nat.{suc-ne-zero}
 use native.Mathlib.Omega.{arith}
 use lib.ListN.{length, getD, drop, replicate}
 use lib.Dec.{eqb, ltb}
-use borrow.Author.Tests.{ltb-true, ltb-false, ne-eqb}
-use Rattle.octets.specs.Octets.{Octets, octets-zeros}
+use borrow.Author.Tests.{ltb-false, ne-eqb}
+use Rattle.octets.specs.Octets.{Octets, allSmall, small-octets, octets-zeros}
 use Rattle.octets.specs.Number.{toBe}
 use Rattle.sense.specs.declared.Answer.{Answer}
 use Rattle.sense.specs.declared.Answer.the-variants.{Good, Busy, BadImage, NoTarget, BadCdb, WrongCount, ShortRoom, BadState, UnknownCode, TargetFailed, BadField, BadListLength, BadList, BadRange, NestedAddress, NestedFailed, NestedRange}
@@ -55,43 +55,31 @@ pub record Sound (n : ℕ) (s : Sense) : Type 0 where
   -- "CHECK CONDITION (02h) with sense", and no other
   pub with-check : ltb 0 (s .len) ≡ eqb n 0x02
 
--- a test of all bytes at once
-small : List ℕ → Bool
-small [] = true
-small (x ∷ xs) = ltb x 256 && small xs
-
-small-octets : (xs : List ℕ) → small xs ≡ true → Octets xs
-unfolding small
-small-octets [] h i = zero-lt-suc 255
-small-octets (x ∷ xs) h zero = ltb-true x 256 (and-eq-true-iff (ltb x 256) (small xs) .0 h .0)
-small-octets (x ∷ xs) h (suc i) = small-octets xs (and-eq-true-iff (ltb x 256) (small xs) .0 h .1) i
-
 none-sound : (n : ℕ) → false ≡ eqb n 0x02 → Sound n noSense
 unfolding noSense
 none-sound n e =
     record { bytes-long = refl; bytes-octets = octets-zeros 37; zeros-after = refl; length-is = refl; with-check = e }
 
 absent-sound : Sound 0x02 absentSense
-unfolding absentSense toBe small
+unfolding absentSense toBe
 absent-sound =
     let o = small-octets (absentSense .bytes) refl in
     record { bytes-long = refl; bytes-octets = o; zeros-after = refl; length-is = refl; with-check = refl }
 
-module _ (key code qualifier : ℕ) (h : small (key ∷ code ∷ qualifier ∷ []) ≡ true) where
+module _ (key code qualifier : ℕ) (h : allSmall (key ∷ code ∷ qualifier ∷ []) ≡ true) where
   plain-sound : Sound 0x02 (plainSense key code qualifier)
-  unfolding plainSense toBe small
+  unfolding plainSense toBe
   plain-sound =
       let o = small-octets (plainSense key code qualifier .bytes) h in
       record { bytes-long = refl; bytes-octets = o; zeros-after = refl; length-is = refl; with-check = refl }
 
   nested-sound : Sound 0x02 (nestedSense key code qualifier)
-  unfolding nestedSense toBe small
+  unfolding nestedSense toBe
   nested-sound =
       let o = small-octets (nestedSense key code qualifier .bytes) h in
       record { bytes-long = refl; bytes-octets = o; zeros-after = refl; length-is = refl; with-check = refl }
 
 pub sound : (a : Answer) → Sound (numberOf a) (senseOf a)
-unfolding small
 sound Good = none-sound _ refl
 sound Busy = none-sound _ refl
 sound BadImage = none-sound _ refl

@@ -1,21 +1,19 @@
 -- What the slots' tests say, by name. Assumes nothing.
-use mathlib.Core.Path.{_≡_, refl, sym, ap, _∙_}
-use mathlib.Core.List.{List, [], _∷_}
-use mathlib.Core.Bool.{Bool, true, false, not, cond}
+use mathlib.Core.Path.{_≡_, refl}
+use mathlib.Core.List.{List}
+use mathlib.Core.Bool.{true, false, not}
 use Prim.Native.Nat.{ℕ, _+_, _≤_, _<_}
-use native.Mathlib.Omega.{arith}
-use lib.Dec.{leb, ltb, eqb}
 use borrow.Author.Tests.{leb-true, ltb-true, eqb-true, le-leb, lt-ltb, eq-eqb, not-true, not-false}
 use Rattle.rules.specs.Every.{every, holds, every-of}
-use Rattle.rules.specs.All.{allBelow, all-at, all-intro}
-use Rattle.rules.specs.Count.{countBelow, count-le}
+use Rattle.rules.specs.All.{all-at, all-intro}
+use Rattle.rules.specs.Count.{countBelow}
 use Rattle.rules.specs.declared.Found.the-variants.{At}
 use Rattle.rules.specs.Least.{least-inside}
 use Rattle.geometry.specs.declared.Geometry.{Geometry}
 use Rattle.slots.specs.declared.Slot.{Slot}
 use Rattle.slots.specs.Record.{slotOf, zeroSlot, isUsed}
 use Rattle.slots.specs.Find.{emptySlot}
-use Rattle.slots.specs.Slots.{emptyOk, usedOk, slotOk, usedCount, hasRank, rankCount, eachOk, ranksOk, slotsOk}
+use Rattle.slots.specs.Slots.{emptyOk, usedOk, slotOk, usedCount, hasRank, eachOk, ranksOk, slotsOk}
 
 pub record Used (g : Geometry) (k : ℕ) (r : Slot) : Type 0 where
   pub kind-low : 1 ≤ r .kind

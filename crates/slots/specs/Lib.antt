@@ -4,5 +4,7 @@ pub mod Find
 pub mod Change
 pub mod RecordLaws
 pub mod Facts
+pub mod Ranks
 pub mod Stored
+pub mod Kept
 pub mod Turns

@@ -6,7 +6,6 @@ use lib.Dec.{eqb}
 use Rattle.octets.specs.Part.{part}
 use Rattle.octets.specs.Number.{be, toBe}
 use Rattle.geometry.specs.declared.Geometry.{Geometry}
-use Rattle.geometry.specs.declared.Block.{Block}
 use Rattle.geometry.specs.Header.{slotAt}
 use Rattle.slots.specs.declared.Slot.{Slot}
 

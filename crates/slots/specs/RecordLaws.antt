@@ -1,10 +1,10 @@
 -- What is written as a record is read as it. Assumes nothing.
 use mathlib.Core.Path.{_≡_, refl, sym, ap, _∙_}
-use mathlib.Core.List.{List, [], _∷_, _++_}
-use mathlib.Core.Logic.{inl, inr}
+use mathlib.Core.List.{List, [], _∷_}
+use mathlib.Core.Logic.{inr}
 use Prim.Native.Nat.{ℕ, _+_, _/_, _%_, _^_, _≤_, _<_}
 use native.Mathlib.Omega.{arith}
-use lib.ListN.{length, replicate, length-append}
+use lib.ListN.{length, replicate}
 use Rattle.octets.specs.Part.{part, length-part}
 use Rattle.octets.specs.Put.{put}
 use Rattle.octets.specs.Octets.{Octets, octets-part}

@@ -1,18 +1,17 @@
--- What a write does to the slots: inside a slot's record, in another slot, outside the slots. Assumes nothing.
-use mathlib.Core.Path.{_≡_, refl, sym, ap, _∙_}
-use mathlib.Core.Logic.{_⊎_, inl, inr, ⊎-elim}
-use mathlib.Core.List.{List, [], _∷_, _++_}
-use Prim.Native.Nat.{ℕ, _+_, _*_, _^_, _≤_, _<_}
+-- What a write inside a slot does to the slots: to its own record, and to the others. Assumes nothing.
+use mathlib.Core.Path.{_≡_, ap, _∙_}
+use mathlib.Core.Logic.{inl, inr, ⊎-elim}
+use mathlib.Core.List.{List, _++_}
+use Prim.Native.Nat.{ℕ, _+_, _^_, _≤_, _<_}
 use native.Mathlib.Omega.{arith}
-use lib.ListN.{length, replicate, length-append, length-replicate}
+use lib.ListN.{length, replicate, length-append}
 use Rattle.octets.specs.Part.{part, length-part, part-append-front}
-use Rattle.octets.specs.Put.{put, length-put}
+use Rattle.octets.specs.Put.{put}
 use Rattle.octets.specs.PutPut.{part-put, part-put-of, part-put-in, part-put-apart}
-use Rattle.octets.specs.Number.{toBe, length-toBe}
+use Rattle.octets.specs.Number.{toBe}
 use Rattle.geometry.specs.declared.Geometry.{Geometry}
 use Rattle.geometry.specs.Header.{slotAt, slotSize}
-use Rattle.geometry.specs.Frame.{Placed}
-use Rattle.geometry.specs.Places.{slots-apart, slot-before-media, slot-after-table}
+use Rattle.geometry.specs.Places.{slots-apart}
 use Rattle.slots.specs.declared.Slot.{Slot}
 use Rattle.slots.specs.Record.{recordOf, bytesOf, slotOf, zeroSlot}
 use Rattle.slots.specs.RecordLaws.{Small, record-bytes, length-bytes, record-zeros, ranked, record-ranked}
@@ -48,11 +47,3 @@ pub slot-other : (s : List ℕ) (g : Geometry) (i j : ℕ) (ys : List ℕ) → (
 unfolding slotOf
 slot-other s g i j ys ne h =
     ap recordOf (part-put-apart s (slotAt g i) ys (slotAt g j) 16 (⊎-elim (λ l. inl (omega arith)) (λ l. inr (omega arith)) (slots-apart g j i ne)))
-
--- a write that ends before the slots, or starts with the media, leaves them all
-pub slot-outside : (s : List ℕ) (g : Geometry) (at : ℕ) (ys : List ℕ) (i : ℕ) → Placed g → i < g .s → (at + length ys ≤ g .slots) ⊎ (g .media ≤ at)
-    → slotOf (put s at ys) g i ≡ slotOf s g i
-unfolding slotOf
-slot-outside s g at ys i p l w =
-    ap recordOf (part-put-apart s at ys (slotAt g i) 16
-    (⊎-elim (λ h. inr (omega (arith, slot-after-table g i p, p .slots-is))) (λ h. inl (omega (arith, slot-before-media g i p l))) w))

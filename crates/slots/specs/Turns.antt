@@ -1,21 +1,18 @@
 -- How the searches and changes go on from slot to slot, as the code does. Assumes nothing.
 use mathlib.Core.Path.{_≡_, refl, sym, ap, ap₂, _∙_}
-use mathlib.Core.List.{List, [], _∷_, _++_}
-use mathlib.Core.Bool.{Bool, true, false}
-use Prim.Native.Nat.{ℕ, zero, suc, _+_, _-_, _≤_, _<_}
+use mathlib.Core.List.{List, [], _∷_}
+use mathlib.Core.Bool.{true, false}
+use Prim.Native.Nat.{ℕ, _+_, _-_, _≤_, _<_}
 use native.Mathlib.Numerals.{add-one}
 use native.Mathlib.Omega.{arith}
 use lib.ListN.{length, replicate}
 use lib.Dec.{ltb}
 use borrow.Author.Tests.{lt-ltb, le-ltb}
-use Rattle.octets.specs.Put.{put, length-put}
+use Rattle.octets.specs.Put.{put}
 use Rattle.octets.specs.PutPut.{put-comm, put-append}
 use Rattle.octets.specs.Number.{toBe}
-use Rattle.rules.specs.declared.Found.{Found}
 use Rattle.rules.specs.declared.Found.the-variants.{At, Nothing}
-use Rattle.rules.specs.Every.{every, fails, every-of}
-use Rattle.rules.specs.Cases.{either, order}
-use mathlib.Core.Logic.{⊎-elim}
+use Rattle.rules.specs.Every.{fails, every-of}
 use Rattle.geometry.specs.declared.Geometry.{Geometry}
 use Rattle.geometry.specs.Header.{slotAt}
 use Rattle.slots.specs.declared.Slot.{Slot}
@@ -24,7 +21,7 @@ use Rattle.slots.specs.Record.{slotOf, bytesOf}
 use Rattle.slots.specs.RecordLaws.{length-bytes}
 use Rattle.slots.specs.Slots.{usedCount}
 use Rattle.slots.specs.Find.{emptySlot, wanted, better, bestOf, newestOf}
-use Rattle.slots.specs.Change.{entry, entered, retained, lowerOne, lowered, released, ofDrive, dropOne, droppedTo, dropped}
+use Rattle.slots.specs.Change.{entry, retained, lowerOne, lowered, released, ofDrive, dropOne, droppedTo, dropped}
 
 -- ---- the newest
 

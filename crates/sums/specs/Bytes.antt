@@ -11,7 +11,7 @@ use Rattle.octets.specs.Xor.{length-xor, getD-xor}
 use Rattle.geometry.specs.declared.Geometry.{Geometry}
 use Rattle.geometry.specs.Header.{place}
 use Rattle.geometry.specs.Frame.{Framed}
-use Rattle.geometry.specs.Places.{range-room}
+use Rattle.geometry.specs.Places.{block-room}
 use Rattle.sums.specs.Row.{blockIn, summedTo, rowSum}
 
 -- the XOR of f 0 to f (n - 1)
@@ -37,9 +37,7 @@ module _ (s : List ℕ) (g : Geometry) (r : ℕ) where
 
   module _ (f : Framed s g) (h : r < g .b) where
     pub length-block : (d : ℕ) → d < g .d → length (blockIn s g r d) ≡ g .l
-    length-block d l =
-        let e = range-room s g d r 1 f (record { drive-in = l; range-in = omega arith }) in
-        length-part s (place g d r) (g .l) (omega arith)
+    length-block d l = length-part s (place g d r) (g .l) (block-room s g d r f l h)
 
     length-to : (n : ℕ) → n < g .d → length (summedTo s g r (suc n)) ≡ g .l
     unfolding summedTo

@@ -1,21 +1,22 @@
 -- What a write does to each row's sum. Assumes nothing.
 use mathlib.Core.Path.{_≡_, refl, sym, ap, ap₂, _∙_}
-use mathlib.Core.Logic.{_⊎_, inl, inr, ⊎-elim}
+use mathlib.Core.Logic.{_⊎_, ⊎-elim}
 use mathlib.Core.List.{List, []}
 use Prim.Native.Nat.{ℕ, zero, suc, _+_, _-_, _*_, _≤_, _<_}
-use native.Mathlib.Nat.{not-suc-le-zero, mul-le-mul-right, suc-mul}
+use native.Mathlib.Nat.{not-suc-le-zero}
 use native.Mathlib.Omega.{arith}
 use lib.ListN.{length}
 use Rattle.octets.specs.Part.{part, length-part, part-part}
 use Rattle.octets.specs.Put.{put}
-use Rattle.octets.specs.PutPut.{part-put-below, part-put-above, part-put-of, part-put-apart}
+use Rattle.octets.specs.PutPut.{part-put-below, part-put-above, part-put-of}
+use Rattle.octets.specs.Pieces.{block-inside}
 use Rattle.octets.specs.Xor.{_⊻_, length-xor-le, xor-nil, xor-commutes, xor-regroups, xor-swaps, xor-cancels, part-xor}
-use Rattle.rules.specs.Cases.{order, same, apart, last-or-below}
+use Rattle.rules.specs.Cases.{order, same, last-or-below}
 use Rattle.geometry.specs.declared.Geometry.{Geometry}
 use Rattle.geometry.specs.Header.{place}
 use Rattle.geometry.specs.Frame.{Framed}
-use Rattle.geometry.specs.Places.{Range, place-after-media, place-on, place-before, range-room}
-use Rattle.sums.specs.Laws.{block-inside}
+use Rattle.geometry.specs.Places.{Range, place-after-media, place-on, block-before, block-upto, range-room}
+use Rattle.geometry.specs.Written.{other-drive}
 use Rattle.sums.specs.Row.{blockIn, summedTo, rowSum}
 use Rattle.sums.specs.Share.{share, share-in, share-below, share-past}
 
@@ -72,32 +73,16 @@ module _ (s : List ℕ) (g : Geometry) (f : Framed s g) (d b n : ℕ) (w : Range
   length-old : length old ≡ n * g .l
   length-old = length-part s at (n * g .l) room
 
-  -- block r of the drive lies before block q
-  block-before : (r q : ℕ) → r < q → place g d r + g .l ≤ place g d q
-  unfolding place
-  block-before r q l =
-      let h : suc (d * g .b + r) * g .l ≤ (d * g .b + q) * g .l = mul-le-mul-right (g .l) (omega arith) in
-      omega (arith, suc-mul (d * g .b + r) (g .l))
-
-  block-upto : (r q : ℕ) → r ≤ q → place g d r ≤ place g d q
-  unfolding place
-  block-upto r q l =
-      let h : (d * g .b + r) * g .l ≤ (d * g .b + q) * g .l = mul-le-mul-right (g .l) (omega arith) in
-      omega arith
-
   other-block : (r e : ℕ) → r < g .b → (e ≡ d → ⊥) → blockIn (put s at ys) g r e ≡ blockIn s g r e
-  other-block r e l ne =
-      part-put-apart s at ys (place g e r) (g .l)
-      (⊎-elim (λ h. inl (let k = place-before g e d r b 1 h (omega arith) in omega arith))
-      (λ h. inr (let k = place-before g d e b r n h (w .range-in) in omega arith)) (apart e d ne))
+  other-block r e l ne = other-drive s g d e b r n 1 (g .l) ys ne (w .range-in) (omega arith) (omega arith) (omega arith)
 
   own-below : (r : ℕ) → r < b → blockIn (put s at ys) g r d ≡ blockIn s g r d
-  own-below r h = part-put-below s at ys (place g d r) (g .l) (block-before r b h)
+  own-below r h = part-put-below s at ys (place g d r) (g .l) (block-before g d r b h)
 
   own-above : (r : ℕ) → b + n ≤ r → blockIn (put s at ys) g r d ≡ blockIn s g r d
   own-above r h =
       let e : place g d (b + n) ≡ at + n * g .l = place-on g d b n in
-      part-put-above s at ys (place g d r) (g .l) (omega (arith, block-upto (b + n) r h))
+      part-put-above s at ys (place g d r) (g .l) (omega (arith, block-upto g d (b + n) r h))
 
   -- block r, counted from block b on
   inside : (r : ℕ) → r < b + n → b ≤ r → (r - b) * g .l + g .l ≤ n * g .l

@@ -1,5 +1,4 @@
 pub mod Row
-pub mod Laws
 pub mod Bytes
 pub mod Share
 pub mod Change

@@ -8,9 +8,8 @@ use native.Mathlib.Omega.{arith}
 use lib.Dec.{leb}
 use lib.ListN.{length}
 use borrow.Author.Tests.{le-leb, lt-leb}
-use Rattle.octets.specs.Part.{part}
+use Rattle.octets.specs.Part.{part, length-part-le, part-past}
 use Rattle.geometry.specs.declared.Geometry.{Geometry}
-use Rattle.sums.specs.Laws.{length-part-le, part-past}
 
 -- the block of row r, of the bytes ys from block b on; nothing where they have none
 unfoldable pub share : Geometry → ℕ → List ℕ → ℕ → List ℕ

@@ -6,7 +6,7 @@ use native.Mathlib.Omega.{arith}
 use lib.ListN.{take}
 use borrow.Author.Needs.{needs}
 use Rattle.octets.specs.Put.{put, put-nil}
-use Rattle.sense.proofs.Copy.{put-next, put-done}
+use Rattle.octets.specs.PutPut.{put-next, put-done}
 use Rattle.sense.proofs.placed.Statement.{statement}
 use Rattle.sense.proofs.placed.Tie as tie
 

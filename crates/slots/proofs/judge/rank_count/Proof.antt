@@ -1,10 +1,10 @@
 -- `slots::judge::rank_count` meets its contract. Assumes nothing.
 use mathlib.Core.Path.{_≡_, sym, ap, _∙_}
-use mathlib.Core.Logic.{⊎-elim}
+use mathlib.Core.Logic.{inl, inr, ⊎-elim}
 use Prim.Native.Nat.{_≤_, _-_}
 use native.Mathlib.Omega.{arith}
 use borrow.Author.Needs.{needs}
-use Rattle.rules.specs.Count.{countBelow, count-none, count-took, count-kept, count-done}
+use Rattle.rules.specs.Count.{countBelow, count-none, count-turn, count-done}
 use Rattle.slots.specs.Record.{slotOf}
 use Rattle.slots.specs.Slots.{hasRank}
 use Rattle.slots.proofs.judge.rank_count.Statement.{statement}
@@ -22,11 +22,9 @@ loop-holds c = (search needs, search needs, sym (count-none _))
 loop-again : tie.Need-loop-again Inv-loop μ-loop
 loop-again c =
     let the-loop = c .before .before .before .before .loop in
-    let has-rank = c .before .has-rank in
     let args = c .before .before .before .before .before .before .args in
-    let read-slot = c .before .before .read-slot in
-    let if1 = c .if1 in
-    ⊎-elim (λ w. (omega arith, omega arith, count-took _ _ _ _ (the-loop .inv .2) (w .1) (sym (has-rank .ensures ∙ ap (hasRank (args .rank)) (read-slot .ensures .0)) ∙ w .0 .taken))) (λ w. (omega arith, omega arith, count-kept _ _ _ _ (the-loop .inv .2) (w .1) (sym (has-rank .ensures ∙ ap (hasRank (args .rank)) (read-slot .ensures .0)) ∙ w .0 .left))) (if1 .came)
+    let test = c .before .has-rank .ensures ∙ ap (hasRank (args .rank)) (c .before .before .read-slot .ensures .0) in
+    let turn = count-turn _ _ _ _ _ (the-loop .inv .2) test (⊎-elim (λ w. inl (w .0 .taken, w .1)) (λ w. inr (w .0 .left, w .1)) (c .if1 .came)) in (omega arith, turn .0, turn .1)
 
 returns : tie.Need-returns Inv-loop μ-loop
 returns c = count-done _ _ _ _ (c .before .loop .inv .2) (search needs) (search needs)
