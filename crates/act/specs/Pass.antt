@@ -4,10 +4,9 @@ use mathlib.Core.Bool.{Bool, cond}
 use mathlib.Core.List.{List, []}
 use lib.Dec.{eqb}
 use lib.ListN.{length}
-use Rattle.octets.specs.Part.{part}
+use Rattle.octets.specs.Part.{part, Apart}
 use Rattle.octets.specs.Put.{put}
 use Rattle.octets.specs.Xor.{_⊻_}
-use Rattle.gather.specs.Job.{Apart}
 use Rattle.act.specs.declared.pass.Pass.{Pass}
 
 -- "result = data XOR old blocks, or the data itself with Mirror"

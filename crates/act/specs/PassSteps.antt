@@ -6,13 +6,11 @@ use mathlib.Core.Bool.{Bool, true, false, cond}
 use mathlib.Core.Logic.{inl, inr, ⊎-elim}
 use mathlib.Core.List.{List, []}
 use lib.ListN.{length, take, drop}
-use lib.Seq.{length-take-le}
 use borrow.Author.Tests.{eq-eqb, ne-eqb}
-use Rattle.octets.specs.Part.{part, mid-part}
+use Rattle.octets.specs.Part.{part, length-part-le, mid-part}
 use Rattle.octets.specs.Put.{put, put-nil}
 use Rattle.octets.specs.PutPut.{part-put-apart}
 use Rattle.octets.specs.Xor.{_⊻_}
-use Rattle.gather.specs.Parts.{length-part-le}
 use Rattle.act.specs.declared.pass.Pass.{Pass}
 use Rattle.act.specs.Pass.{mixed, laid, dataPiece, passedPiece, Clear}
 
@@ -69,7 +67,3 @@ piece-in-turn s sent p o k a t u h le ae al te ue =
     ∙ ap (λ (n : ℕ). put t (p .to + o) (laid (p .adds) (part t (p .to + o) n) a)) al
     ∙ ap₂ (λ (x y : List ℕ). put x (p .to + o) (laid (p .adds) y a)) q w
     ∙ ap (λ (x : List ℕ). put (put s (p .from + o) d) (p .to + o) (laid (p .adds) (part s (p .to + o) k) x)) ae
-
--- through the front of a longer buffer
-pub piece-front : (s sent : List ℕ) (p : Pass) (o k : ℕ) (buf t : List ℕ) → k ≤ length buf → t ≡ passedPiece s sent p o (length (take k buf)) → t ≡ passedPiece s sent p o k
-piece-front s sent p o k buf t h e = e ∙ ap (passedPiece s sent p o) (length-take-le k buf h)

@@ -3,15 +3,15 @@ use Prim.Native.Nat.{ℕ, _+_, _≤_}
 use native.Mathlib.Omega.{arith}
 use mathlib.Core.Path.{_≡_, refl, sym, ap, ap₂, _∙_}
 use mathlib.Core.Bool.{Bool, true, false, cond}
-use mathlib.Core.Logic.{_⊎_, inl, inr, ⊎-elim}
+use mathlib.Core.Logic.{inl, inr, ⊎-elim}
 use mathlib.Core.List.{List, []}
 use lib.Dec.{eqb}
 use lib.ListN.{length}
-use Rattle.octets.specs.Part.{part, length-part, part-part}
+use Rattle.octets.specs.Part.{part, length-part, length-part-le, part-part, part-whole, part-nil}
 use Rattle.octets.specs.Put.{put, put-nil, length-put}
-use Rattle.octets.specs.PutPut.{part-put-apart, put-comm}
+use Rattle.octets.specs.PutPut.{part-put-above, put-comm}
+use Rattle.octets.specs.Pieces.{put-parts, part-ahead}
 use Rattle.octets.specs.Xor.{_⊻_, part-xor, length-xor-le}
-use Rattle.gather.specs.Parts.{part-nil, length-part-le, part-whole, put-parts}
 use Rattle.act.specs.declared.pass.Pass.{Pass}
 use Rattle.act.specs.Pass.{mixed, laid, dataOf, laidOf, passed, laidPiece, passedPiece, Clear}
 
@@ -82,24 +82,27 @@ module _ (s sent : List ℕ) (p : Pass) where
         let l = reached-length in
         record { from-in = omega (arith, h .from-in); to-in = omega (arith, h .to-in); apart = h .apart }
 
-    -- what is not yet passed on stands as it was
-    rest-kept : (a k : ℕ) → (a + k ≤ p .from) ⊎ (p .from + o ≤ a) → (a + k ≤ p .to) ⊎ (p .to + o ≤ a) → part t a k ≡ part s a k
-    unfolding reached
-    rest-kept a k x y =
-        let d = part (dataOf sent p) 0 o in
-        let b = part (laidOf s sent p) 0 o in
-        let ld : length d ≤ o = length-part-le (dataOf sent p) 0 o in
-        let lb : length b ≤ o = length-part-le (laidOf s sent p) 0 o in
-        ap (λ (w : List ℕ). part w a k) e
-        ∙ part-put-apart (put s (p .from) d) (p .to) b a k (⊎-elim (λ l. inl l) (λ l. inr (omega arith)) y)
-        ∙ part-put-apart s (p .from) d a k (⊎-elim (λ l. inl l) (λ l. inr (omega arith)) x)
-
     module _ (k : ℕ) (le : o + k ≤ length sent) where
+      abbrev data-done : List ℕ
+      data-done = part (dataOf sent p) 0 o
+
+      abbrev laid-done : List ℕ
+      laid-done = part (laidOf s sent p) 0 o
+
+      -- what is not yet passed on stands as it was
       from-kept : part t (p .from + o) k ≡ part s (p .from + o) k
-      from-kept = rest-kept (p .from + o) k (inr (omega arith)) (⊎-elim (λ l. inl (omega arith)) (λ l. inr (omega arith)) (h .apart))
+      unfolding reached
+      from-kept =
+          ap (λ (w : List ℕ). part w (p .from + o) k) e
+          ∙ part-ahead (put s (p .from) data-done) (p .to) (length sent) o k laid-done le (length-part-le (laidOf s sent p) 0 o) (p .from) (h .apart)
+          ∙ part-put-above s (p .from) data-done (p .from + o) k (omega (arith, length-part-le (dataOf sent p) 0 o))
 
       to-kept : part t (p .to + o) k ≡ part s (p .to + o) k
-      to-kept = rest-kept (p .to + o) k (⊎-elim (λ l. inr (omega arith)) (λ l. inl (omega arith)) (h .apart)) (inr (omega arith))
+      unfolding reached
+      to-kept =
+          ap (λ (w : List ℕ). part w (p .to + o) k) e
+          ∙ part-put-above (put s (p .from) data-done) (p .to) laid-done (p .to + o) k (omega (arith, length-part-le (laidOf s sent p) 0 o))
+          ∙ part-ahead s (p .from) (length sent) o k data-done le (length-part-le (dataOf sent p) 0 o) (p .to) (⊎-elim (λ l. inr l) (λ l. inl l) (h .apart))
 
       piece-kept : laidPiece t sent p o k ≡ part (laidOf s sent p) o k
       piece-kept =

@@ -2,29 +2,29 @@
 use Prim.Native.Nat.{ℕ, _+_, _*_, _≤_, _<_}
 use native.Mathlib.Omega.{arith}
 use mathlib.Core.Path.{_≡_, sym, ap, ap₂, _∙_}
-use mathlib.Core.Bool.{Bool, true, false, cond, true≢false}
+use mathlib.Core.Bool.{true, false, true≢false}
 use mathlib.Core.Logic.{inr}
 use mathlib.Core.List.{List}
-use lib.Dec.{eqb}
 use lib.ListN.{length}
-use Rattle.octets.specs.Part.{part}
+use Rattle.octets.specs.Part.{part, Apart}
 use Rattle.octets.specs.Put.{put}
 use Rattle.octets.specs.Xor.{_⊻_, nil-xor}
+use Rattle.rules.specs.Least.{index}
 use Rattle.geometry.specs.declared.Geometry.{Geometry}
 use Rattle.geometry.specs.Header.{slotAt}
 use Rattle.geometry.specs.Frame.{Framed}
-use Rattle.geometry.specs.Places.{Range, place-after-media, places-apart, range-room, slot-before-media, data-ends}
+use Rattle.geometry.specs.Places.{Range, place-after-media, places-apart, range-room, slot-before-media, data-ends, data-in}
 use Rattle.slots.specs.Record.{bytesOf}
 use Rattle.slots.specs.Slots.{usedCount}
 use Rattle.slots.specs.Change.{entry}
 use Rattle.command.specs.Command.{sourceOf}
 use Rattle.meaning.specs.declared.Span.{Span}
 use Rattle.meaning.specs.declared.Act.the-variants.{Rebuild, Regenerate}
-use Rattle.meaning.specs.Acts.{spanAt, index, gathered, leaves}
+use Rattle.meaning.specs.Acts.{spanAt, gathered, leaves}
 use Rattle.meaning.specs.Allowed.{Blocks, Entry, Sourced, Limited, Free}
+use Rattle.meaning.specs.Lengths.{span-after-media, span-in, list-in, int-exact}
 use Rattle.gather.specs.declared.Job.{Job}
-use Rattle.gather.specs.Job.{summed, homeOf, startOf, Named, Apart, Listed, Ready}
-use Rattle.act.specs.Moves.{span-in, data-in}
+use Rattle.gather.specs.Job.{summed, homeOf, startOf, Named, Listed, Ready}
 
 module _ (s : List ℕ) (g : Geometry) (x : Span) (n int : ℕ) (sent : List ℕ) (frame : Framed s g) (b : Blocks s g x) (h : Sourced s g x n int sent) (few : n < 256) where
   -- ---- the sources
@@ -41,13 +41,9 @@ module _ (s : List ℕ) (g : Geometry) (x : Span) (n int : ℕ) (sent : List ℕ
   source-in : (i : ℕ) → i < n → startOf s g (sourceOf sent i) + x .count * g .l ≤ length s
   source-in i l = range-room s g (homeOf s g (sourceOf sent i)) (sourceOf sent i .block .0) (x .count) frame (source-range i l)
 
-  list-long : (none : Bool) → length sent ≡ 8 + 8 * n + cond none 0 (x .count * g .l) → (8 + 8 * n ≤ length sent) × (none ≡ false → length sent ≡ 8 + 8 * n + x .count * g .l)
-  list-long true e = (omega arith, λ (q : true ≡ false). absurd (true≢false q))
-  list-long false e = (omega arith, λ (q : false ≡ false). e)
-
   sources-listed : Listed s g sent n
   sources-listed =
-      record { frame = frame; few = few; long = list-long (eqb int 0) (h .exact) .0; each = source-named }
+      record { frame = frame; few = few; long = list-in s g x n int sent frame h; each = source-named }
 
   -- another drive's blocks
   source-apart : (i : ℕ) → i < n → Apart (startOf s g (sourceOf sent i)) (spanAt g x) (x .count * g .l)
@@ -63,12 +59,11 @@ module _ (s : List ℕ) (g : Geometry) (x : Span) (n int : ℕ) (sent : List ℕ
 
   pub rebuild-ready : (at : ℕ) → at ≡ spanAt g x → Ready s g sent (rebuilding at)
   rebuild-ready at e =
-      let m = list-long (eqb int 0) (h .exact) in
       let a : at + x .count * g .l ≤ length s = omega (arith, span-in s g x frame (b .range)) in
       record {
         listed = sources-listed;
         some-source = h .some-source;
-        exact = m .1;
+        exact = int-exact s g x n int sent frame h;
         own-in = a;
         to-in = a;
         own-apart = λ (q : false ≡ true). absurd (true≢false (sym q));
@@ -91,14 +86,13 @@ module _ (s : List ℕ) (g : Geometry) (x : Span) (n int : ℕ) (sent : List ℕ
 
     pub regenerate-ready : Limited g x → Free s g i → Ready s g sent regenerating
     regenerate-ready m k =
-        let q = list-long (eqb int 0) (h .exact) in
         let d : at + 16 + x .count * g .l ≤ g .media =
         omega (arith, slot-before-media g i (frame .placed) (k .slot-in), data-ends g i (x .count) m) in
-        let p : g .media ≤ spanAt g x = place-after-media g (x .drive) (x .block .0) in
+        let p = span-after-media g x in
         record {
           listed = sources-listed;
           some-source = h .some-source;
-          exact = q .1;
+          exact = int-exact s g x n int sent frame h;
           own-in = omega (arith, span-in s g x frame (b .range));
           to-in = omega (arith, data-in s g i (x .count) frame (k .slot-in) m);
           own-apart = λ o. inr (omega arith);

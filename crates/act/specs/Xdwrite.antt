@@ -12,7 +12,7 @@ use Rattle.octets.specs.Put.{put, put-nil}
 use Rattle.geometry.specs.declared.Geometry.{Geometry}
 use Rattle.geometry.specs.Header.{slotAt, dataAt}
 use Rattle.geometry.specs.Frame.{Framed}
-use Rattle.geometry.specs.Places.{Range, place-after-media, places-apart, slot-before-media, data-ends}
+use Rattle.geometry.specs.Places.{Range, places-apart, slot-before-media, data-ends, data-in}
 use Rattle.slots.specs.Record.{bytesOf}
 use Rattle.slots.specs.Slots.{usedCount}
 use Rattle.slots.specs.Change.{entry}
@@ -20,9 +20,9 @@ use Rattle.meaning.specs.declared.Span.{Span}
 use Rattle.meaning.specs.declared.Act.the-variants.{Couple, Retain}
 use Rattle.meaning.specs.Acts.{Store, store, stored, spanAt, leaves}
 use Rattle.meaning.specs.Allowed.{Blocks, Filled, Limited, Free}
+use Rattle.meaning.specs.Lengths.{span-after-media, span-in}
 use Rattle.act.specs.declared.pass.Pass.{Pass}
 use Rattle.act.specs.Pass.{mixed, laid, passed, Clear}
-use Rattle.act.specs.Moves.{span-in, data-in}
 
 -- ---- the result goes to the secondary
 
@@ -65,7 +65,7 @@ module _ (s : List ℕ) (g : Geometry) (x : Span) (i mirror ndisc from at : ℕ)
     (fe : from ≡ spanAt g x) (ae : at ≡ slotAt g i) where
   pub retain-clear : Framed s g → Blocks s g x → Limited g x → Free s g i → Clear s sent (keeping from at mirror ndisc)
   retain-clear frame b m k =
-      let a : g .media ≤ spanAt g x = place-after-media g (x .drive) (x .block .0) in
+      let a = span-after-media g x in
       let d : dataAt g i + length sent ≤ g .media =
       omega (arith, slot-before-media g i (frame .placed) (k .slot-in), data-ends g i (x .count) m, f) in
       record {

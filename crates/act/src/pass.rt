@@ -36,7 +36,7 @@ fn pass_by(image: &mut [u8], sent: &[u8], p: Pass, buf: &mut [u8])
     let n = sent.len();
     let mut o = 0;
     while o < n {
-        let k = gather::least(n - o, buf.len());
+        let k = octets::least(n - o, buf.len());
         pass_front(image, sent, p, o, k, buf);
         o += k;
     }

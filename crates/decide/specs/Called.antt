@@ -7,6 +7,7 @@ use mathlib.Core.Path.{_≡_, refl, sym, ap, _∙_}
 use Rattle.rules.specs.declared.Found.{Found}
 use Rattle.rules.specs.declared.Found.the-variants.{At, Nothing}
 use Rattle.rules.specs.Rule.{rule, first}
+use Rattle.rules.specs.Least.{index}
 use Rattle.geometry.specs.declared.Geometry.{Geometry}
 use Rattle.geometry.specs.Header.{geometryOf}
 use Rattle.geometry.specs.Frame.{Framed}
@@ -20,7 +21,6 @@ use Rattle.meaning.specs.declared.Seen.{Seen}
 use Rattle.meaning.specs.declared.Seen.the-variants.{Dash}
 use Rattle.meaning.specs.declared.Decision.{Decision}
 use Rattle.meaning.specs.declared.Decision.the-variants.{Stop}
-use Rattle.meaning.specs.Acts.{index}
 use Rattle.meaning.specs.Checks.{isNothing, calls}
 use Rattle.decide.specs.declared.Reached.{Reached}
 use Rattle.decide.specs.declared.Reached.the-variants.{Refused, Drive}
@@ -74,14 +74,14 @@ module _ (m : List ℕ) (a : ℕ) where
           let f : driveOf m g a ≡ At t = ap (λ (x : Geometry). driveOf m x a) h ∙ q ∙ ap At j in
           record { valid = p; header = h; found = f; frame = valid-framed m g p h; inside = drive-inside m g a t f .0 }
 
-  -- where it refuses, a decision that begins with calls 1 and 2 does, whatever follows
-  pub called-refused : (x : Answer) (d : Decision) → calledOf m a ≡ Refused x → Stop 1 Dash x ≡ first Stop (calls m a) d
+  -- where it refuses, so does every list of checks that begins with calls 1 and 2, whatever follows
+  pub called-refused : {D : Type 0} (stop : ℕ → Seen → Answer → D) (x : Answer) (d : D) → calledOf m a ≡ Refused x → stop 1 Dash x ≡ first stop (calls m a) d
   unfolding calledOf
-  called-refused x d e = pick (validImage m) (driveOf m (geometryOf m) a) e
+  called-refused {D} stop x d e = pick (validImage m) (driveOf m (geometryOf m) a) e
     where
       pick : (v : Bool) (f : Found)
           → first refused (rule 1 Dash (not v) BadImage ∷ rule 1 Dash (isNothing f) NoTarget ∷ []) (Drive (geometryOf m) (index f)) ≡ Refused x
-          → Stop 1 Dash x ≡ first Stop (rule 1 Dash (not v) BadImage ∷ rule 1 Dash (isNothing f) NoTarget ∷ []) d
+          → stop 1 Dash x ≡ first stop (rule 1 Dash (not v) BadImage ∷ rule 1 Dash (isNothing f) NoTarget ∷ []) d
       pick false f e = let h : x ≡ BadImage = cc in rw h
       pick true Nothing e = let h : x ≡ NoTarget = cc in rw h
       pick true (At i) e = let z : _≡_ {A = ℕ} 0 1 = cc in absurd (omega arith)

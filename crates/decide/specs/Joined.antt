@@ -17,7 +17,8 @@ use Rattle.sense.specs.declared.Answer.the-variants.{TargetFailed, BadField}
 use Rattle.command.specs.declared.Op.{Op}
 use Rattle.command.specs.declared.Op.the-variants.{XdWrite, XpWrite, XdRead, Rebuild, Regenerate, Read, Write, Unknown}
 use Rattle.command.specs.declared.Command.{Command}
-use Rattle.command.specs.Command.{opOf, sizeOf, zeroBits, commandOf, sixteenOf, tenOf, listedOf, secOf, ownOf, resolvedOf}
+use Rattle.command.specs.Command.{opOf, sizeOf, zeroBits, commandOf, secOf, ownOf, resolvedOf}
+use Rattle.command.specs.Lossless.{command-op}
 use Rattle.meaning.specs.declared.Seen.the-variants.{Cdb, Drive}
 use Rattle.meaning.specs.declared.Decision.the-variants.{Stop}
 use Rattle.meaning.specs.Checks.{decideOf}
@@ -70,18 +71,6 @@ module _ (m : List ℕ) (g : Geometry) (t : ℕ) (k : Command) (s : List ℕ) (r
     unfolding flaggedOf
     flags-on h = rw (eq-eqb (bitAnd (k .flags) (zeroBits o)) 0 (ap (bitAnd (k .flags)) (sym e) ∙ h))
 
--- a decoded command knows its code
-op-is : (o : Op) (c : List ℕ) → commandOf o c .op ≡ o
-unfolding sixteenOf tenOf listedOf
-op-is XdWrite c = refl
-op-is XpWrite c = refl
-op-is XdRead c = refl
-op-is Rebuild c = refl
-op-is Regenerate c = refl
-op-is Read c = refl
-op-is Write c = refl
-op-is Unknown c = refl
-
 module _ (m : List ℕ) (g : Geometry) (t : ℕ) (c s : List ℕ) (r : ℕ) where
   pub sized-failed : (o : Op) → (sizeOf o ≡ 0 → ⊥) → length c ≡ sizeOf o → failed m g t ≡ true
       → Stop 3 (Drive t) TargetFailed ≡ sizedOf o m g t c s r
@@ -92,7 +81,7 @@ module _ (m : List ℕ) (g : Geometry) (t : ℕ) (c s : List ℕ) (r : ℕ) wher
       → flaggedOf (k .op) m g t k s r ≡ sizedOf o m g t c s r
   unfolding sizedOf
   sized-on o k e z l f =
-      let p : k .op ≡ o = ap (λ (x : Command). x .op) e ∙ op-is o c in
+      let p : k .op ≡ o = ap (λ (x : Command). x .op) e ∙ command-op o c in
       ap (λ (x : Op). flaggedOf x m g t k s r) p
       ∙ joined m g t k s r o z
       ∙ ap (λ (x : Command). checkedOf o m g t x s r) e

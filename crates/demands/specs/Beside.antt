@@ -1,9 +1,9 @@
 -- "In every GOOD answer only the named blocks of the media involved are written, besides the slots." Assumes nothing.
-use mathlib.Core.Path.{_≡_, refl, sym, ap, subst, _∙_}
+use mathlib.Core.Path.{_≡_, refl, ap, _∙_}
 use mathlib.Core.Bool.{Bool, true, false, cond}
 use mathlib.Core.Logic.{_⊎_, inl, inr, ⊎-elim}
 use mathlib.Core.List.{List, [], _∷_, _++_}
-use Prim.Native.Nat.{ℕ, _+_, _*_, _≤_, _<_}
+use Prim.Native.Nat.{ℕ, _+_, _*_, _≤_}
 use native.Mathlib.Omega.{arith}
 use lib.Dec.{eqb}
 use lib.ListN.{length}
@@ -13,12 +13,11 @@ use Rattle.octets.specs.PutPut.{part-put-apart}
 use Rattle.octets.specs.Xor.{_⊻_, length-xor-le}
 use Rattle.geometry.specs.declared.Geometry.{Geometry}
 use Rattle.geometry.specs.Frame.{Framed}
-use Rattle.results.specs.Outside.{Away, outside-away}
+use Rattle.geometry.specs.Outside.{Away, outside-away}
+use Rattle.slots.specs.Kept.{media-empty}
 use Rattle.results.specs.Results.{Sound}
 use Rattle.results.specs.Release.{release-part}
 use Rattle.results.specs.Retain.{retain-away}
-use Rattle.results.specs.Kept.{put-outside, kept-empty}
-use Rattle.geometry.specs.Places.{place-after-media}
 use Rattle.image.specs.Shelf.{Shelf, shelf-frame}
 use Rattle.image.specs.Keeps.{shelf-written}
 use Rattle.meaning.specs.declared.Span.{Span}
@@ -26,9 +25,9 @@ use Rattle.meaning.specs.declared.Act.{Act}
 use Rattle.meaning.specs.declared.Act.the-variants.{Read, Write, XpWrite, XdRead, Couple, Retain, Rebuild, Regenerate}
 use Rattle.meaning.specs.Acts.{stored, store, spanAt, blocksOf, resultOf, passedOn, keeping, gathered, leaves}
 use Rattle.meaning.specs.Allowed.{Blocks, Filled, Allowed}
-use Rattle.demands.specs.Leaves.{resultIn, keeping-is, written-keeping, length-blocks, length-result}
-use Rattle.demands.specs.Gathered.{length-gathered}
-use Rattle.demands.specs.Valid.{sound-in, regenerated-long}
+use Rattle.meaning.specs.Lengths.{span-after-media, length-blocks, length-result, length-gathered}
+use Rattle.demands.specs.Leaves.{resultIn, keeping-is, written-keeping}
+use Rattle.demands.specs.Valid.{retained-sound, regenerated-sound}
 
 -- n bytes from index a on lie apart from a span's blocks
 abbrev pub Clear : Geometry → Span → ℕ → ℕ → Type 0
@@ -71,10 +70,10 @@ module _ (s : List ℕ) (g : Geometry) (h : Shelf s g) (sent : List ℕ) (a n : 
       res = resultOf s g x mirror sent
 
       sound : Sound g (resultIn 1 x res)
-      sound = sound-in s g 1 x res (omega arith) (omega arith) b m (length-result s g (shelf-frame s g h) x b mirror sent e)
+      sound = retained-sound s g h sent x mirror b e m
 
       media : g .media ≤ spanAt g x
-      media = place-after-media g (x .drive) (x .block .0)
+      media = span-after-media g x
 
       pick : (c : Bool) → (c ≡ true → Clear g x a n) → part (stored s (cond c (store (spanAt g x) sent ∷ []) [] ++ keeping s g i 1 x res)) a n ≡ part s a n
       pick true k =
@@ -82,7 +81,7 @@ module _ (s : List ℕ) (g : Geometry) (h : Shelf s g) (sent : List ℕ) (a n : 
           let p = shelf-frame s g h .placed in
           let hw = shelf-written s g h (spanAt g x) sent media in
           ap (λ (t : List ℕ). part t a n) (written-keeping s g i 1 (spanAt g x) x sent res p media (v .takes))
-          ∙ retain-away w g (shelf-frame w g hw) (hw .slots-ok) i (kept-empty s w g p (put-outside s g (spanAt g x) sent p (inr media)) ∙ v .takes) (resultIn 1 x res) sound a n away
+          ∙ retain-away w g (shelf-frame w g hw) (hw .slots-ok) i (media-empty s g (spanAt g x) sent p media ∙ v .takes) (resultIn 1 x res) sound a n away
           ∙ clear s x sent e (k refl)
       pick false k =
           ap (λ (t : List ℕ). part t a n) (keeping-is s g i 1 x res (v .takes))
@@ -103,4 +102,4 @@ module _ (s : List ℕ) (g : Geometry) (h : Shelf s g) (sent : List ℕ) (a n : 
       let bytes = blocksOf s g x ⊻ gathered s g sent (x .count) k int in
       ap (λ (t : List ℕ). part t a n) (keeping-is s g i 2 x bytes (al .3 .takes))
       ∙ retain-away s g (shelf-frame s g h) (h .slots-ok) i (al .3 .takes) (resultIn 2 x bytes)
-      (sound-in s g 2 x bytes (omega arith) (omega arith) (al .0) (al .2) (regenerated-long s g h sent x k int (al .0) (al .1))) a n w
+      (regenerated-sound s g h sent x k int (al .0) (al .1) (al .2)) a n w

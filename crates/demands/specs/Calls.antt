@@ -1,33 +1,24 @@
 -- Resets and markings: a refused one changes nothing, and every one keeps a valid image valid. Assumes nothing.
-use mathlib.Core.Path.{_≡_, refl, sym, ap, subst, _∙_}
-use mathlib.Core.Bool.{Bool, true, false, not, true≢false, false≢true}
-use mathlib.Core.List.{List, [], _∷_, _++_}
-use Prim.Native.Nat.{ℕ, _+_, _≤_, _<_}
-use native.Mathlib.Omega.{arith}
-use borrow.Author.Tests.{ltb-false, not-false}
-use Rattle.rules.specs.declared.Found.{Found}
-use Rattle.rules.specs.declared.Found.the-variants.{At, Nothing}
-use Rattle.rules.specs.Rule.{AllPass, first, first-cases}
+use mathlib.Core.Path.{_≡_, sym, subst}
+use mathlib.Core.Bool.{false}
+use mathlib.Core.List.{List}
+use Prim.Native.Nat.{ℕ, _<_}
+use borrow.Author.Tests.{ltb-false}
+use Rattle.rules.specs.Rule.{first-cases}
 use Rattle.geometry.specs.declared.Geometry.{Geometry}
 use Rattle.geometry.specs.Header.{geometryOf}
 use Rattle.drives.specs.Table.{driveOf, marked}
 use Rattle.drives.specs.Lookup.{drive-inside}
 use Rattle.slots.specs.Change.{dropped}
-use Rattle.image.specs.Valid.{validImage}
-use Rattle.image.specs.Shelf.{Shelf, shelf}
+use Rattle.image.specs.Shelf.{Shelf}
 use Rattle.image.specs.Keeps.{shelf-dropped, shelf-marked}
-use Rattle.meaning.specs.Acts.{index}
 use Rattle.meaning.specs.Checks.{isNothing, calls}
-use Rattle.meaning.specs.Step.{answered, untouched, target, resetImage, markCalls, markImage}
-
--- the lookup found a drive
-pub found-at : (f : Found) → isNothing f ≡ false → f ≡ At (index f)
-found-at (At i) e = refl
-found-at Nothing e = absurd (true≢false e)
+use Rattle.meaning.specs.Step.{untouched, target, resetImage, markCalls, markImage}
+use Rattle.licence.specs.Passed.{found}
 
 -- the target that passed call 2 is a drive
 pub target-in : (m : List ℕ) (a : ℕ) → isNothing (driveOf m (geometryOf m) a) ≡ false → target m a < geometryOf m .d
-target-in m a e = drive-inside m (geometryOf m) a (target m a) (found-at (driveOf m (geometryOf m) a) e) .0
+target-in m a e = drive-inside m (geometryOf m) a (target m a) (found (driveOf m (geometryOf m) a) e) .0
 
 module _ (m : List ℕ) (g : Geometry) (h : Shelf m g) (a : ℕ) where
   pub reset-shelf : Shelf (resetImage m a) g

@@ -1,7 +1,7 @@
 -- The byte count of a step fits 32 bits, as the C interface hands it over. Assumes nothing.
-use mathlib.Core.Path.{_≡_, refl, sym, ap, _∙_}
+use mathlib.Core.Path.{_≡_, refl}
 use mathlib.Core.List.{List}
-use Prim.Native.Nat.{ℕ, _+_, _*_, _≤_, _<_}
+use Prim.Native.Nat.{ℕ, _*_, _≤_, _<_}
 use native.Mathlib.Nat.{mul-le-mul}
 use native.Mathlib.Omega.{arith}
 use lib.Dec.{lit<}
@@ -10,14 +10,15 @@ use Rattle.octets.specs.Part.{length-part}
 use Rattle.geometry.specs.declared.Geometry.{Geometry}
 use Rattle.geometry.specs.Header.{geometryOf, dataAt}
 use Rattle.geometry.specs.Frame.{Framed}
-use Rattle.geometry.specs.Places.{range-room, slot-room, data-ends}
+use Rattle.geometry.specs.Places.{data-in}
 use Rattle.image.specs.Shelf.{shelf-frame}
 use Rattle.meaning.specs.declared.Act.{Act}
 use Rattle.meaning.specs.declared.Act.the-variants.{Read, Write, XpWrite, XdRead, Couple, Retain, Rebuild, Regenerate}
 use Rattle.meaning.specs.declared.Decision.{Decision}
 use Rattle.meaning.specs.declared.Decision.the-variants.{Stop, Go}
-use Rattle.meaning.specs.Acts.{spanAt, hands}
+use Rattle.meaning.specs.Acts.{hands}
 use Rattle.meaning.specs.Allowed.{Allowed}
+use Rattle.meaning.specs.Lengths.{length-blocks}
 use Rattle.meaning.specs.Step.{decided, outcomeAfter, stepOutcome}
 use Rattle.licence.specs.Granted.{granted}
 
@@ -28,14 +29,13 @@ module _ (s : List ℕ) (g : Geometry) (f : Framed s g) (sent : List ℕ) (room 
 
   pub hands-small : (act : Act) → Allowed s g sent room act → length (hands s g act) < 4294967296
   hands-small (Read x) a =
-      let n = length-part s (spanAt g x) (x .count * g .l) (range-room s g (x .drive) (x .block .0) (x .count) f (a .0 .range)) in
+      let n = length-blocks s g f x (a .0) in
       let k = small (x .count) (omega (arith, a .0 .range .range-in, f .placed .ranges .b-high)) in
       omega arith
   hands-small (Write x) a = lit< tt
   hands-small (XpWrite x) a = lit< tt
   hands-small (XdRead x i) a =
-      let e : dataAt g i + x .count * g .l ≤ length s = omega (arith, data-ends g i (x .count) (a .0 .limited), slot-room s g i f (a .0 .slot-in)) in
-      let n = length-part s (dataAt g i) (x .count * g .l) e in
+      let n = length-part s (dataAt g i) (x .count * g .l) (data-in s g i (x .count) f (a .0 .slot-in) (a .0 .limited)) in
       let k = small (x .count) (omega (arith, a .0 .limited, f .placed .ranges .m-high)) in
       omega arith
   hands-small (Couple x y mirror) a = lit< tt

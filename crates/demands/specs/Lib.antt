@@ -1,5 +1,4 @@
 pub mod Leaves
-pub mod Gathered
 pub mod Valid
 pub mod Beside
 pub mod Retained

@@ -1,22 +1,21 @@
 -- What each act does to the retained results by age; and XDREAD's answer is the newest at its drive and block. Assumes nothing.
-use mathlib.Core.Path.{_≡_, refl, sym, ap, subst, _∙_}
+use mathlib.Core.Path.{_≡_, refl, sym, ap, _∙_}
 use mathlib.Core.Bool.{Bool, true, false, cond}
-use mathlib.Core.Logic.{inl, inr}
+use mathlib.Core.Logic.{inr}
 use mathlib.Core.List.{List, [], _∷_, _++_}
-use mathlib.Core.Option.{Option, some, none}
-use Prim.Native.Nat.{ℕ, _+_, _*_, _≤_}
-use native.Mathlib.Omega.{arith}
+use mathlib.Core.Option.{some}
+use Prim.Native.Nat.{ℕ, _*_, _≤_}
 use lib.Dec.{eqb}
 use Rattle.octets.specs.Part.{part}
 use Rattle.octets.specs.Put.{put}
 use Rattle.octets.specs.Xor.{_⊻_}
 use Rattle.geometry.specs.declared.Geometry.{Geometry}
 use Rattle.geometry.specs.Header.{dataAt}
-use Rattle.geometry.specs.Places.{place-after-media}
+use Rattle.slots.specs.Kept.{put-outside, media-empty}
 use Rattle.results.specs.First.{firstOf, sansFirst}
 use Rattle.results.specs.Results.{Result, Sound, results, resultAt}
 use Rattle.results.specs.Retain.{retain-results}
-use Rattle.results.specs.Kept.{put-outside, kept-empty, kept-results}
+use Rattle.results.specs.Kept.{kept-results}
 use Rattle.results.specs.Newest.{answers, newest-result, newest-goes}
 use Rattle.image.specs.Shelf.{Shelf, shelf-frame}
 use Rattle.image.specs.Keeps.{shelf-written}
@@ -24,9 +23,10 @@ use Rattle.meaning.specs.declared.Span.{Span}
 use Rattle.meaning.specs.declared.Act.{Act}
 use Rattle.meaning.specs.declared.Act.the-variants.{Read, Write, XpWrite, XdRead, Couple, Retain, Rebuild, Regenerate}
 use Rattle.meaning.specs.Acts.{stored, store, spanAt, blocksOf, resultOf, keeping, gathered, leaves, hands}
-use Rattle.meaning.specs.Allowed.{Held, Allowed}
-use Rattle.demands.specs.Leaves.{resultIn, keeping-is, written-keeping, length-result}
-use Rattle.demands.specs.Valid.{sound-in, regenerated-long}
+use Rattle.meaning.specs.Allowed.{Allowed}
+use Rattle.meaning.specs.Lengths.{span-after-media}
+use Rattle.demands.specs.Leaves.{resultIn, keeping-is, written-keeping}
+use Rattle.demands.specs.Valid.{retained-sound, regenerated-sound}
 
 -- the results after an act
 abbrev pub afterwards : List ℕ → Geometry → List ℕ → Act → List Result
@@ -40,9 +40,6 @@ afterwards s g sent (Rebuild x n int) = results s g
 afterwards s g sent (Regenerate x n int i) = resultIn 2 x (blocksOf s g x ⊻ gathered s g sent (x .count) n int) ∷ results s g
 
 module _ (s : List ℕ) (g : Geometry) (h : Shelf s g) (sent : List ℕ) where
-  media : (x : Span) → g .media ≤ spanAt g x
-  media x = place-after-media g (x .drive) (x .block .0)
-
   -- blocks written leave them
   pub written-results : (at : ℕ) (ys : List ℕ) → g .media ≤ at → results (put s at ys) g ≡ results s g
   written-results at ys l =
@@ -57,36 +54,36 @@ module _ (s : List ℕ) (g : Geometry) (h : Shelf s g) (sent : List ℕ) where
       res = resultOf s g x mirror sent
 
       sound : Sound g (resultIn 1 x res)
-      sound = sound-in s g 1 x res (omega arith) (omega arith) b m (length-result s g (shelf-frame s g h) x b mirror sent e)
+      sound = retained-sound s g h sent x mirror b e m
 
       pick : (c : Bool) → results (stored s (cond c (store (spanAt g x) sent ∷ []) [] ++ keeping s g i 1 x res)) g ≡ resultIn 1 x res ∷ results s g
       pick true =
           let w = put s (spanAt g x) sent in
           let p = shelf-frame s g h .placed in
-          let hw = shelf-written s g h (spanAt g x) sent (media x) in
-          ap (λ (t : List ℕ). results t g) (written-keeping s g i 1 (spanAt g x) x sent res p (media x) (v .takes))
-          ∙ retain-results w g (shelf-frame w g hw) (hw .slots-ok) i (kept-empty s w g p (put-outside s g (spanAt g x) sent p (inr (media x))) ∙ v .takes) (resultIn 1 x res) sound
-          ∙ ap (λ (l : List Result). resultIn 1 x res ∷ l) (written-results (spanAt g x) sent (media x))
+          let hw = shelf-written s g h (spanAt g x) sent (span-after-media g x) in
+          ap (λ (t : List ℕ). results t g) (written-keeping s g i 1 (spanAt g x) x sent res p (span-after-media g x) (v .takes))
+          ∙ retain-results w g (shelf-frame w g hw) (hw .slots-ok) i (media-empty s g (spanAt g x) sent p (span-after-media g x) ∙ v .takes) (resultIn 1 x res) sound
+          ∙ ap (λ (l : List Result). resultIn 1 x res ∷ l) (written-results (spanAt g x) sent (span-after-media g x))
       pick false =
           ap (λ (t : List ℕ). results t g) (keeping-is s g i 1 x res (v .takes)) ∙ retain-results s g (shelf-frame s g h) (h .slots-ok) i (v .takes) (resultIn 1 x res) sound
 
   pub results-after : (room : ℕ) (act : Act) → Allowed s g sent room act → results (leaves s g sent act) g ≡ afterwards s g sent act
   results-after room (Read x) a = refl
-  results-after room (Write x) a = written-results (spanAt g x) sent (media x)
-  results-after room (XpWrite x) a = written-results (spanAt g x) (blocksOf s g x ⊻ sent) (media x)
+  results-after room (Write x) a = written-results (spanAt g x) sent (span-after-media g x)
+  results-after room (XpWrite x) a = written-results (spanAt g x) (blocksOf s g x ⊻ sent) (span-after-media g x)
   results-after room (XdRead x i) a = newest-goes s g (h .slots-ok) (x .drive) (x .block .0) (shelf-frame s g h) i (a .0 .answers)
   results-after room (Couple x y mirror) a =
       let p = shelf-frame s g h .placed in
       let w = put s (spanAt g x) sent in
-      let hw = shelf-written s g h (spanAt g x) sent (media x) in
-      kept-results w _ g p (put-outside w g (spanAt g y) _ p (inr (media y))) (hw .slots-ok) ∙ written-results (spanAt g x) sent (media x)
+      let hw = shelf-written s g h (spanAt g x) sent (span-after-media g x) in
+      kept-results w _ g p (put-outside w g (spanAt g y) _ p (inr (span-after-media g y))) (hw .slots-ok) ∙ written-results (spanAt g x) sent (span-after-media g x)
   results-after room (Retain x i mirror ndisc) a = retain-after room x i mirror ndisc a
-  results-after room (Rebuild x n int) a = written-results (spanAt g x) (gathered s g sent (x .count) n int) (media x)
+  results-after room (Rebuild x n int) a = written-results (spanAt g x) (gathered s g sent (x .count) n int) (span-after-media g x)
   results-after room (Regenerate x n int i) a =
       let bytes = blocksOf s g x ⊻ gathered s g sent (x .count) n int in
       ap (λ (t : List ℕ). results t g) (keeping-is s g i 2 x bytes (a .3 .takes))
       ∙ retain-results s g (shelf-frame s g h) (h .slots-ok) i (a .3 .takes) (resultIn 2 x bytes)
-      (sound-in s g 2 x bytes (omega arith) (omega arith) (a .0) (a .2) (regenerated-long s g h sent x n int (a .0) (a .1)))
+      (regenerated-sound s g h sent x n int (a .0) (a .1) (a .2))
 
   -- XDREAD hands out the newest result at its drive and block, whole
   pub newest-handed : (room : ℕ) (x : Span) (i : ℕ) → Allowed s g sent room (XdRead x i)

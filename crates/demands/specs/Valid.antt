@@ -1,35 +1,30 @@
 -- Every act keeps a valid image valid, with the same geometry. Assumes nothing.
-use mathlib.Core.Path.{_≡_, refl, sym, ap, subst, _∙_}
+use mathlib.Core.Path.{_≡_, sym, subst, _∙_}
 use mathlib.Core.Bool.{Bool, true, false, cond}
-use mathlib.Core.Logic.{inl, inr}
 use mathlib.Core.List.{List, [], _∷_, _++_}
-use Prim.Native.Nat.{ℕ, _+_, _*_, _≤_, _<_}
+use Prim.Native.Nat.{ℕ, _*_, _≤_}
 use native.Mathlib.Omega.{arith}
 use lib.Dec.{eqb}
 use lib.ListN.{length}
 use Rattle.octets.specs.Put.{put}
 use Rattle.octets.specs.Xor.{_⊻_, length-xor-le}
 use Rattle.rules.specs.Every.{holds}
-use Rattle.rules.specs.declared.Found.the-variants.{At}
 use Rattle.geometry.specs.declared.Geometry.{Geometry}
-use Rattle.geometry.specs.Frame.{Placed, Framed}
-use Rattle.geometry.specs.Places.{place-after-media}
-use Rattle.slots.specs.Find.{emptySlot}
-use Rattle.results.specs.Results.{Result, Sound, withResult}
-use Rattle.results.specs.Kept.{put-outside, kept-empty}
+use Rattle.slots.specs.Kept.{media-empty}
+use Rattle.results.specs.Results.{Result, Sound}
 use Rattle.results.specs.Best.{newest-at}
 use Rattle.image.specs.Shelf.{Shelf, shelf-frame}
 use Rattle.image.specs.Keeps.{shelf-retained, shelf-released, shelf-written}
 use Rattle.meaning.specs.declared.Span.{Span}
 use Rattle.meaning.specs.declared.Act.{Act}
 use Rattle.meaning.specs.declared.Act.the-variants.{Read, Write, XpWrite, XdRead, Couple, Retain, Rebuild, Regenerate}
-use Rattle.meaning.specs.Acts.{stored, store, spanAt, blocksOf, resultOf, keeping, written, gathered, leaves}
-use Rattle.meaning.specs.Allowed.{Blocks, Free, Limited, Held, Sourced, Allowed}
-use Rattle.demands.specs.Leaves.{resultIn, keeping-is, written-keeping, length-blocks, length-result}
-use Rattle.demands.specs.Gathered.{length-gathered}
+use Rattle.meaning.specs.Acts.{stored, store, spanAt, blocksOf, resultOf, keeping, gathered, leaves}
+use Rattle.meaning.specs.Allowed.{Blocks, Filled, Limited, Sourced, Allowed}
+use Rattle.meaning.specs.Lengths.{span-after-media, length-blocks, length-result, length-gathered}
+use Rattle.demands.specs.Leaves.{resultIn, keeping-is, written-keeping}
 
 -- what an act retains is sound
-pub sound-in : (s : List ℕ) (g : Geometry) (kind : ℕ) (x : Span) (bytes : List ℕ) → 1 ≤ kind → kind ≤ 2 → Blocks s g x → Limited g x → length bytes ≡ x .count * g .l
+sound-in : (s : List ℕ) (g : Geometry) (kind : ℕ) (x : Span) (bytes : List ℕ) → 1 ≤ kind → kind ≤ 2 → Blocks s g x → Limited g x → length bytes ≡ x .count * g .l
     → Sound g (resultIn kind x bytes)
 sound-in s g kind x bytes lo hi b m e =
     record {
@@ -43,15 +38,22 @@ sound-in s g kind x bytes lo hi b m e =
     }
 
 module _ (s : List ℕ) (g : Geometry) (h : Shelf s g) (sent : List ℕ) where
-  at-media : (x : Span) → g .media ≤ spanAt g x
-  at-media x = place-after-media g (x .drive) (x .block .0)
-
-  pub regenerated-long : (x : Span) (n int : ℕ) → Blocks s g x → Sourced s g x n int sent → length (blocksOf s g x ⊻ gathered s g sent (x .count) n int) ≡ x .count * g .l
+  regenerated-long : (x : Span) (n int : ℕ) → Blocks s g x → Sourced s g x n int sent → length (blocksOf s g x ⊻ gathered s g sent (x .count) n int) ≡ x .count * g .l
   regenerated-long x n int b w =
       let f = shelf-frame s g h in
       let p = length-blocks s g f x b in
       let q = length-gathered s g x n int sent f w in
       length-xor-le (blocksOf s g x) (gathered s g sent (x .count) n int) (omega arith) ∙ p
+
+  -- what XDWRITE retains, and what REGENERATE
+  pub retained-sound : (x : Span) (mirror : ℕ) → Blocks s g x → Filled g x sent → Limited g x → Sound g (resultIn 1 x (resultOf s g x mirror sent))
+  retained-sound x mirror b e m =
+      sound-in s g 1 x (resultOf s g x mirror sent) (omega arith) (omega arith) b m (length-result s g (shelf-frame s g h) x b mirror sent e)
+
+  pub regenerated-sound : (x : Span) (n int : ℕ) → Blocks s g x → Sourced s g x n int sent → Limited g x
+      → Sound g (resultIn 2 x (blocksOf s g x ⊻ gathered s g sent (x .count) n int))
+  regenerated-sound x n int b w m =
+      sound-in s g 2 x (blocksOf s g x ⊻ gathered s g sent (x .count) n int) (omega arith) (omega arith) b m (regenerated-long x n int b w)
 
   kept-retain : (x : Span) (i mirror ndisc : ℕ) → Allowed s g sent 0 (Retain x i mirror ndisc) → Shelf (leaves s g sent (Retain x i mirror ndisc)) g
   kept-retain x i mirror ndisc (b, e, m, v) = pick (eqb ndisc 0)
@@ -60,30 +62,29 @@ module _ (s : List ℕ) (g : Geometry) (h : Shelf s g) (sent : List ℕ) where
       r = resultIn 1 x (resultOf s g x mirror sent)
 
       sound : Sound g r
-      sound = sound-in s g 1 x (resultOf s g x mirror sent) (omega arith) (omega arith) b m (length-result s g (shelf-frame s g h) x b mirror sent e)
+      sound = retained-sound x mirror b e m
 
       pick : (c : Bool) → Shelf (stored s (cond c (store (spanAt g x) sent ∷ []) [] ++ keeping s g i 1 x (resultOf s g x mirror sent))) g
       pick true =
           let w = put s (spanAt g x) sent in
           let p = shelf-frame s g h .placed in
-          subst (λ (t : List ℕ). Shelf t g) (sym (written-keeping s g i 1 (spanAt g x) x sent (resultOf s g x mirror sent) p (at-media x) (v .takes)))
-          (shelf-retained w g (shelf-written s g h (spanAt g x) sent (at-media x)) i (kept-empty s w g p (put-outside s g (spanAt g x) sent p (inr (at-media x))) ∙ v .takes) r sound)
+          subst (λ (t : List ℕ). Shelf t g) (sym (written-keeping s g i 1 (spanAt g x) x sent (resultOf s g x mirror sent) p (span-after-media g x) (v .takes)))
+          (shelf-retained w g (shelf-written s g h (spanAt g x) sent (span-after-media g x)) i (media-empty s g (spanAt g x) sent p (span-after-media g x) ∙ v .takes) r sound)
       pick false =
           subst (λ (t : List ℕ). Shelf t g) (sym (keeping-is s g i 1 x (resultOf s g x mirror sent) (v .takes))) (shelf-retained s g h i (v .takes) r sound)
 
   pub leaves-shelf : (room : ℕ) (act : Act) → Allowed s g sent room act → Shelf (leaves s g sent act) g
   leaves-shelf room (Read x) a = h
-  leaves-shelf room (Write x) a = shelf-written s g h (spanAt g x) sent (at-media x)
-  leaves-shelf room (XpWrite x) a = shelf-written s g h (spanAt g x) (blocksOf s g x ⊻ sent) (at-media x)
+  leaves-shelf room (Write x) a = shelf-written s g h (spanAt g x) sent (span-after-media g x)
+  leaves-shelf room (XpWrite x) a = shelf-written s g h (spanAt g x) (blocksOf s g x ⊻ sent) (span-after-media g x)
   leaves-shelf room (XdRead x i) a =
       let w = newest-at s g (x .drive) (x .block .0) i (a .0 .answers) in
       shelf-released s g h i (w .inside) (holds _ 0 (w .asked))
   leaves-shelf room (Couple x y mirror) a =
-      shelf-written (put s (spanAt g x) sent) g (shelf-written s g h (spanAt g x) sent (at-media x)) (spanAt g y) _ (at-media y)
+      shelf-written (put s (spanAt g x) sent) g (shelf-written s g h (spanAt g x) sent (span-after-media g x)) (spanAt g y) _ (span-after-media g y)
   leaves-shelf room (Retain x i mirror ndisc) a = kept-retain x i mirror ndisc a
-  leaves-shelf room (Rebuild x n int) a = shelf-written s g h (spanAt g x) (gathered s g sent (x .count) n int) (at-media x)
+  leaves-shelf room (Rebuild x n int) a = shelf-written s g h (spanAt g x) (gathered s g sent (x .count) n int) (span-after-media g x)
   leaves-shelf room (Regenerate x n int i) a =
       let bytes = blocksOf s g x ⊻ gathered s g sent (x .count) n int in
       subst (λ (t : List ℕ). Shelf t g) (sym (keeping-is s g i 2 x bytes (a .3 .takes)))
-      (shelf-retained s g h i (a .3 .takes) (resultIn 2 x bytes)
-      (sound-in s g 2 x bytes (omega arith) (omega arith) (a .0) (a .2) (regenerated-long x n int (a .0) (a .1))))
+      (shelf-retained s g h i (a .3 .takes) (resultIn 2 x bytes) (regenerated-sound x n int (a .0) (a .1) (a .2)))

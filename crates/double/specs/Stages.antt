@@ -9,6 +9,7 @@ use lib.ListN.{length}
 use Rattle.rules.specs.declared.Found.{Found}
 use Rattle.rules.specs.declared.Found.the-variants.{At, Nothing}
 use Rattle.rules.specs.Rule.{rule, first}
+use Rattle.rules.specs.Least.{index}
 use Rattle.geometry.specs.declared.Geometry.{Geometry}
 use Rattle.drives.specs.Table.{driveOf, failed}
 use Rattle.slots.specs.Find.{emptySlot}
@@ -19,7 +20,6 @@ use Rattle.meaning.specs.declared.Act.the-variants.{Couple, Retain}
 use Rattle.meaning.specs.declared.Seen.the-variants.{Dash, Cdb, Drive}
 use Rattle.meaning.specs.declared.Decision.{Decision}
 use Rattle.meaning.specs.declared.Decision.the-variants.{Stop, Go}
-use Rattle.meaning.specs.Acts.{index}
 use Rattle.meaning.specs.Sources.{isAt}
 use Rattle.meaning.specs.Checks.{isNothing, zeroControl, aboveM, inRange, spanOf}
 

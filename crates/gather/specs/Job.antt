@@ -2,19 +2,19 @@
 use Prim.Native.Nat.{ℕ, _+_, _*_, _≤_, _<_}
 use mathlib.Core.Path.{_≡_}
 use mathlib.Core.Bool.{true, false, cond}
-use mathlib.Core.Logic.{_⊎_}
 use mathlib.Core.List.{List, []}
 use lib.Dec.{eqb}
 use lib.ListN.{length}
-use Rattle.octets.specs.Part.{part}
+use Rattle.octets.specs.Part.{part, Apart}
 use Rattle.octets.specs.Xor.{_⊻_}
+use Rattle.rules.specs.Least.{index}
 use Rattle.geometry.specs.declared.Geometry.{Geometry}
 use Rattle.geometry.specs.Header.{place}
 use Rattle.geometry.specs.Frame.{Framed}
 use Rattle.drives.specs.Table.{driveOf}
 use Rattle.command.specs.declared.Source.{Source}
 use Rattle.command.specs.Command.{sourceOf}
-use Rattle.meaning.specs.Acts.{index, gathered}
+use Rattle.meaning.specs.Acts.{gathered}
 use Rattle.gather.specs.declared.Job.{Job}
 
 -- how many bytes each operand has
@@ -45,10 +45,6 @@ pub record Listed (s : List ℕ) (g : Geometry) (sent : List ℕ) (n : ℕ) : Ty
   pub few : n < 256
   pub long : 8 + 8 * n ≤ length sent
   pub each : (i : ℕ) → i < n → Named s g (sourceOf sent i)
-
--- two ranges of n bytes do not meet
-abbrev pub Apart : ℕ → ℕ → ℕ → Type 0
-Apart a b n = (a + n ≤ b) ⊎ (b + n ≤ a)
 
 -- every operand lies in the image, and apart from where the XOR goes
 pub record Ready (s : List ℕ) (g : Geometry) (sent : List ℕ) (j : Job) : Type 0 where

@@ -1,8 +1,6 @@
-pub mod Parts
 pub mod Job
 pub mod Starts
 pub mod Pieces
 pub mod Steps
 pub mod Turns
-pub mod Length
 pub mod Whole

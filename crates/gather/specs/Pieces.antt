@@ -3,13 +3,12 @@ use Prim.Native.Nat.{ℕ, zero, suc, _+_, _*_, _≤_, _<_}
 use mathlib.Core.Path.{_≡_}
 use mathlib.Core.Bool.{Bool, true, false, cond}
 use mathlib.Core.List.{List, [], _∷_}
-use lib.Dec.{eqb}
+use lib.Dec.{eqb, ltb}
 use lib.ListN.{length, getD, replicate}
-use Rattle.octets.specs.Part.{part}
+use Rattle.octets.specs.Part.{part, Apart}
 use Rattle.octets.specs.Xor.{_⊻_}
 use Rattle.octets.specs.Operands.{xorAll}
 use Rattle.gather.specs.declared.Job.{Job}
-use Rattle.gather.specs.Job.{Apart}
 
 -- what the operands are XORed to, from index from on
 unfoldable pub seedPiece : List ℕ → Bool → ℕ → ℕ → List ℕ
@@ -19,6 +18,10 @@ seedPiece s own from k = cond own (part s from k) (replicate k 0)
 unfoldable pub piecesFrom : List ℕ → List ℕ → ℕ → ℕ → ℕ → ℕ → List (List ℕ)
 piecesFrom s places o k i zero = []
 piecesFrom s places o k i (suc left) = part s (getD places i 0 + o) k ∷ piecesFrom s places o k (i + 1) left
+
+-- how many of the sources left the code takes at once
+abbrev pub atOnce : ℕ → ℕ
+atOnce left = cond (ltb left 4) 1 4
 
 -- the intermediate data, where there is any, from index at on
 unfoldable pub intPiece : ℕ → List ℕ → ℕ → ℕ → List ℕ

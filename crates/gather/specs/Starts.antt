@@ -10,12 +10,12 @@ use lib.ListN.{length, getD, set, length-set}
 use lib.Seq.{getD-set-same, getD-set-other}
 use Rattle.rules.specs.declared.Found.{Found}
 use Rattle.rules.specs.Cases.{last-or-below}
+use Rattle.rules.specs.Least.{index}
 use Rattle.geometry.specs.declared.Geometry.{Geometry}
 use Rattle.geometry.specs.Header.{place}
 use Rattle.drives.specs.Table.{driveOf}
 use Rattle.command.specs.declared.Source.{Source}
 use Rattle.command.specs.Command.{sourceOf}
-use Rattle.meaning.specs.Acts.{index}
 use Rattle.gather.specs.Job.{homeOf, startOf, Named, Listed}
 
 -- one source

@@ -1,18 +1,20 @@
 -- How the code goes on from operand to operand. Assumes nothing.
-use Prim.Native.Nat.{ℕ, suc, _+_, _-_, _*_, _≤_}
+use Prim.Native.Nat.{ℕ, zero, suc, _+_, _-_, _*_, _≤_, _<_}
+use native.Mathlib.Nat.{zero-add, suc-add}
 use native.Mathlib.Omega.{arith}
 use mathlib.Core.Path.{_≡_, sym, ap, ap₂, _∙_}
 use mathlib.Core.Bool.{Bool, true, false}
-use mathlib.Core.List.{List}
+use mathlib.Core.Logic.{⊎-elim}
+use mathlib.Core.List.{List, [], _∷_, _++_}
 use lib.ListN.{length, getD, take, drop, replicate}
-use borrow.Author.Tests.{eq-eqb, ne-eqb}
-use lib.Seq.{length-take-le}
+use borrow.Author.Tests.{eq-eqb, ne-eqb, lt-ltb, le-ltb}
 use Rattle.octets.specs.Part.{part, part-part}
 use Rattle.octets.specs.Put.{put}
 use Rattle.octets.specs.Xor.{_⊻_, xor-nil, xor-regroups}
-use Rattle.octets.specs.Operands.{xorAll}
+use Rattle.octets.specs.Operands.{xorAll, xorAll-one, xorAll-append}
+use Rattle.rules.specs.Cases.{order}
 use Rattle.gather.specs.declared.Job.{Job}
-use Rattle.gather.specs.Pieces.{seedPiece, piecesFrom, intPiece, sumPiece, Within, Laid}
+use Rattle.gather.specs.Pieces.{seedPiece, piecesFrom, atOnce, intPiece, sumPiece, Within, Laid}
 
 -- ---- what the operands are XORed to
 
@@ -27,30 +29,62 @@ module _ (s : List ℕ) (own : Bool) (from k : ℕ) where
 
 -- ---- the sources
 
+pieces-add : (s places : List ℕ) (o k i m n : ℕ) → piecesFrom s places o k i (m + n) ≡ piecesFrom s places o k i m ++ piecesFrom s places o k (i + m) n
+unfolding piecesFrom
+pieces-add s places o k i zero n = let e : i ≡ i + 0 = omega arith in rw (zero-add n) (ap (λ (j : ℕ). piecesFrom s places o k j n) e)
+pieces-add s places o k i (suc m) n =
+    let e : i + 1 + m ≡ i + suc m = omega arith in
+    rw (suc-add m n)
+    (ap (λ (ps : List (List ℕ)). part s (getD places i 0 + o) k ∷ ps)
+    (pieces-add s places o k (i + 1) m n ∙ ap (λ (j : ℕ). piecesFrom s places o k (i + 1) m ++ piecesFrom s places o k j n) e))
+
 module _ (s places : List ℕ) (o k i left : ℕ) (acc : List ℕ) where
   -- none is left
   pub sources-end : left ≡ 0 → acc ≡ acc ⊻ xorAll (piecesFrom s places o k i left)
   unfolding piecesFrom xorAll
   sources-end e = rw e (sym (xor-nil acc))
 
-  -- entry i, then the others
-  sources-step : (left ≡ 0 → ⊥)
-      → acc ⊻ part s (getD places i 0 + o) k ⊻ xorAll (piecesFrom s places o k (i + 1) (left - 1)) ≡ acc ⊻ xorAll (piecesFrom s places o k i left)
-  unfolding piecesFrom xorAll
-  sources-step ne =
-      let e : left ≡ suc (left - 1) = omega arith in
-      xor-regroups acc (part s (getD places i 0 + o) k) (xorAll (piecesFrom s places o k (i + 1) (left - 1)))
-      ∙ ap (λ (n : ℕ). acc ⊻ xorAll (piecesFrom s places o k i n)) (sym e)
+  -- the next m of them, then the others
+  sources-step : (m : ℕ) → m ≤ left
+      → acc ⊻ xorAll (piecesFrom s places o k i m) ⊻ xorAll (piecesFrom s places o k (i + m) (left - m)) ≡ acc ⊻ xorAll (piecesFrom s places o k i left)
+  sources-step m h =
+      let e : m + (left - m) ≡ left = omega arith in
+      xor-regroups acc (xorAll (piecesFrom s places o k i m)) (xorAll (piecesFrom s places o k (i + m) (left - m)))
+      ∙ ap (_⊻_ acc) (sym (xorAll-append (piecesFrom s places o k i m) (piecesFrom s places o k (i + m) (left - m))))
+      ∙ ap (λ (ps : List (List ℕ)). acc ⊻ xorAll ps) (sym (pieces-add s places o k i m (left - m)))
+      ∙ ap (λ (n : ℕ). acc ⊻ xorAll (piecesFrom s places o k i n)) e
 
-  pub sources-more : (a b : List ℕ) → (left ≡ 0 → ⊥) → length acc ≡ k
-      → a ≡ acc ⊻ part s (getD places i 0 + o) (length acc) → length a ≡ length acc
-      → b ≡ a ⊻ xorAll (piecesFrom s places o (length a) (i + 1) (left - 1))
+  pub sources-more : (m r : ℕ) (a b : List ℕ) → r ≡ m → m ≤ left → length acc ≡ k
+      → a ≡ acc ⊻ xorAll (piecesFrom s places o (length acc) i m) → length a ≡ length acc
+      → b ≡ a ⊻ xorAll (piecesFrom s places o (length a) (i + r) (left - r))
       → b ≡ acc ⊻ xorAll (piecesFrom s places o k i left)
-  sources-more a b ne l ae al be = be ∙ rw (al, ae, l) (sources-step ne)
+  sources-more m r a b e h l ae al be = be ∙ rw (e, al, ae, l) (sources-step m h)
 
-pub rest-within : (s places : List ℕ) (o i left : ℕ) (acc a : List ℕ) → Within s places (i + left) (o + length acc)
-    → (left ≡ 0 → ⊥) → length a ≡ length acc → Within s places (i + 1 + (left - 1)) (o + length a)
-rest-within s places o i left acc a h ne l = let e : i + 1 + (left - 1) ≡ i + left = omega arith in rw (e, l) h
+-- the code takes one at least, and no more than are left
+pub some-at-once : (left : ℕ) → 0 < left → (1 ≤ atOnce left) × (atOnce left ≤ left)
+some-at-once left h =
+    ⊎-elim
+    (λ (l : left < 4). rw (lt-ltb left 4 l) (omega arith, omega arith))
+    (λ (l : 4 ≤ left). rw (le-ltb left 4 l) (omega arith, omega arith))
+    (order left 4)
+
+pub rest-within : (s places : List ℕ) (o i left m : ℕ) (acc a : List ℕ) → Within s places (i + left) (o + length acc)
+    → m ≤ left → length a ≡ length acc → Within s places (i + m + (left - m)) (o + length a)
+rest-within s places o i left m acc a h ml l = let e : i + m + (left - m) ≡ i + left = omega arith in rw (e, l) h
+
+module _ (s places : List ℕ) (o k i left : ℕ) (acc b : List ℕ) where
+  pub next-one : left < 4 → b ≡ acc ⊻ part s (getD places i 0 + o) k → b ≡ acc ⊻ xorAll (piecesFrom s places o k i (atOnce left))
+  unfolding piecesFrom
+  next-one h e = e ∙ rw (lt-ltb left 4 h) (ap (_⊻_ acc) (sym (xorAll-one (part s (getD places i 0 + o) k))))
+
+  pub next-four : 4 ≤ left
+      → b ≡ acc ⊻ xorAll (part s (getD places i 0 + o) k ∷ part s (getD places (i + 1) 0 + o) k ∷ part s (getD places (i + 2) 0 + o) k ∷ part s (getD places (i + 3) 0 + o) k ∷ [])
+      → b ≡ acc ⊻ xorAll (piecesFrom s places o k i (atOnce left))
+  unfolding piecesFrom
+  next-four h e =
+      let two : i + 2 ≡ i + 1 + 1 = omega arith in
+      let three : i + 3 ≡ i + 1 + 1 + 1 = omega arith in
+      e ∙ rw (le-ltb left 4 h, two, three)
 
 -- ---- the intermediate data
 
@@ -81,8 +115,3 @@ module _ (s places sent : List ℕ) (j : Job) (o : ℕ) where
       let q : b ≡ seedPiece s (j .own) (j .from + o) (length acc) ⊻ xorAll (piecesFrom s places o (length acc) 0 (j .sources)) =
       be ∙ ap₂ (λ (u : List ℕ) (m : ℕ). u ⊻ xorAll (piecesFrom s places o m 0 (j .sources))) ae al in
       te ∙ ap (put s (j .to + o)) (ce ∙ ap₂ (λ (u : List ℕ) (m : ℕ). u ⊻ intPiece (j .int) sent (8 + 8 * j .sources + o) m) q (bl ∙ al))
-
-  -- through the front of a longer buffer
-  pub piece-front : (k : ℕ) (buf t : List ℕ) → k ≤ length buf
-      → t ≡ put s (j .to + o) (sumPiece s places sent j o (length (take k buf))) → t ≡ put s (j .to + o) (sumPiece s places sent j o k)
-  piece-front k buf t h e = e ∙ ap (λ (n : ℕ). put s (j .to + o) (sumPiece s places sent j o n)) (length-take-le k buf h)

@@ -1,32 +1,26 @@
 -- How the code goes on from piece to piece. Assumes nothing.
 use Prim.Native.Nat.{ℕ, zero, suc, _+_, _*_, _≤_, _<_}
-use native.Mathlib.Nat.{zero-add}
+use native.Mathlib.Nat.{zero-add, add-assoc}
 use native.Mathlib.Omega.{arith}
 use mathlib.Core.Path.{_≡_, refl, sym, ap, ap₂, _∙_}
 use mathlib.Core.Bool.{Bool, true, false, cond}
-use mathlib.Core.Logic.{inl, inr, ⊎-elim}
 use mathlib.Core.List.{List, [], _∷_}
 use lib.Dec.{eqb}
 use lib.ListN.{length, getD}
-use Rattle.octets.specs.Part.{part, part-part}
+use Rattle.octets.specs.Part.{part, Apart, length-part-le, part-part, part-nil, part-zeros}
 use Rattle.octets.specs.Put.{put, put-nil, length-put}
-use Rattle.octets.specs.PutPut.{part-put-apart}
+use Rattle.octets.specs.Pieces.{put-parts, part-ahead}
 use Rattle.octets.specs.Xor.{_⊻_, part-xor}
 use Rattle.octets.specs.Operands.{xorAll}
 use Rattle.gather.specs.declared.Job.{Job}
-use Rattle.gather.specs.Parts.{part-nil, part-zeros, length-part-le, put-parts}
-use Rattle.gather.specs.Job.{Apart}
 use Rattle.gather.specs.Pieces.{seedPiece, piecesFrom, intPiece, sumPiece, Laid}
 
 -- ---- a piece of the XOR is the XOR of the pieces
 
-on : (a b c : ℕ) → a + b + c ≡ a + (b + c)
-on a b c = omega arith
-
 module _ (a n o k : ℕ) (h : o + k ≤ n) where
   seed-part : (s : List ℕ) (own : Bool) (from : ℕ) → part (seedPiece s own (from + a) n) o k ≡ seedPiece s own (from + (a + o)) k
   unfolding seedPiece
-  seed-part s true from = part-part s (from + a) n o k h ∙ ap (λ (p : ℕ). part s p k) (on from a o)
+  seed-part s true from = part-part s (from + a) n o k h ∙ ap (λ (p : ℕ). part s p k) (add-assoc from a o)
   seed-part s false from = part-zeros n o k h
 
   pieces-part : (s places : List ℕ) (i left : ℕ) → part (xorAll (piecesFrom s places a n i left)) o k ≡ xorAll (piecesFrom s places (a + o) k i left)
@@ -34,12 +28,12 @@ module _ (a n o k : ℕ) (h : o + k ≤ n) where
   pieces-part s places i zero = part-nil o k
   pieces-part s places i (suc left) =
       part-xor (part s (getD places i 0 + a) n) (xorAll (piecesFrom s places a n (i + 1) left)) o k
-      ∙ ap₂ (λ (x y : List ℕ). x ⊻ y) (part-part s (getD places i 0 + a) n o k h ∙ ap (λ (p : ℕ). part s p k) (on (getD places i 0) a o))
+      ∙ ap₂ (λ (x y : List ℕ). x ⊻ y) (part-part s (getD places i 0 + a) n o k h ∙ ap (λ (p : ℕ). part s p k) (add-assoc (getD places i 0) a o))
       (pieces-part s places (i + 1) left)
 
   int-part : (sent : List ℕ) (at : ℕ) (none : Bool) → part (cond none [] (part sent (at + a) n)) o k ≡ cond none [] (part sent (at + (a + o)) k)
   int-part sent at true = part-nil o k
-  int-part sent at false = part-part sent (at + a) n o k h ∙ ap (λ (p : ℕ). part sent p k) (on at a o)
+  int-part sent at false = part-part sent (at + a) n o k h ∙ ap (λ (p : ℕ). part sent p k) (add-assoc at a o)
 
   sum-part : (s places sent : List ℕ) (j : Job) → part (sumPiece s places sent j a n) o k ≡ sumPiece s places sent j (a + o) k
   unfolding sumPiece intPiece
@@ -55,12 +49,9 @@ module _ (a n o k : ℕ) (h : o + k ≤ n) where
 -- ---- what is written where the XOR goes leaves what is yet to be read
 
 module _ (s : List ℕ) (to n o k : ℕ) (ys : List ℕ) (h : o + k ≤ n) (short : length ys ≤ o) where
-  part-kept : (a : ℕ) → Apart a to n → part (put s to ys) (a + o) k ≡ part s (a + o) k
-  part-kept a w = part-put-apart s to ys (a + o) k (⊎-elim (λ l. inl (omega arith)) (λ l. inr (omega arith)) w)
-
   seed-kept : (own : Bool) (from : ℕ) → (own ≡ true → Apart from to n) → seedPiece (put s to ys) own (from + o) k ≡ seedPiece s own (from + o) k
   unfolding seedPiece
-  seed-kept true from w = part-kept from (w refl)
+  seed-kept true from w = part-ahead s to n o k ys h short from (w refl)
   seed-kept false from w = refl
 
   pieces-kept : (places : List ℕ) (i left : ℕ) → ((e : ℕ) → e < i + left → Apart (getD places e 0) to n)
@@ -68,7 +59,7 @@ module _ (s : List ℕ) (to n o k : ℕ) (ys : List ℕ) (h : o + k ≤ n) (shor
   unfolding piecesFrom
   pieces-kept places i zero w = refl
   pieces-kept places i (suc left) w =
-      ap₂ (λ (x : List ℕ) (xs : List (List ℕ)). x ∷ xs) (part-kept (getD places i 0) (w i (omega arith))) (pieces-kept places (i + 1) left (λ e l. w e (omega arith)))
+      ap₂ (λ (x : List ℕ) (xs : List (List ℕ)). x ∷ xs) (part-ahead s to n o k ys h short (getD places i 0) (w i (omega arith))) (pieces-kept places (i + 1) left (λ e l. w e (omega arith)))
 
   sum-kept : (places sent : List ℕ) (j : Job) → j .to ≡ to → Laid s places sent j n → sumPiece (put s to ys) places sent j o k ≡ sumPiece s places sent j o k
   unfolding sumPiece

@@ -7,18 +7,18 @@ use mathlib.Core.Bool.{Bool, true, false, cond}
 use mathlib.Core.List.{List, [], _∷_, _++_}
 use lib.Dec.{eqb}
 use lib.ListN.{length, getD}
-use Rattle.octets.specs.Part.{part}
+use Rattle.octets.specs.Part.{part, length-part}
 use Rattle.octets.specs.Put.{put}
 use Rattle.octets.specs.Xor.{_⊻_, xor-regroups, nil-xor, zeros-xor}
 use Rattle.octets.specs.Operands.{xorAll, xorAll-one, xorAll-append}
 use Rattle.geometry.specs.declared.Geometry.{Geometry}
 use Rattle.command.specs.Command.{sourceOf}
 use Rattle.meaning.specs.Acts.{sourcesFrom, intData, gathered}
+use Rattle.meaning.specs.Lengths.{gathered-long}
 use Rattle.gather.specs.declared.Job.{Job}
 use Rattle.gather.specs.Job.{size, summed, startOf, Ready}
 use Rattle.gather.specs.Starts.{startsOver, length-starts, start-is}
 use Rattle.gather.specs.Pieces.{seedPiece, piecesFrom, intPiece, sumPiece, Laid}
-use Rattle.gather.specs.Length.{length-gathered}
 
 -- zeros are no operand
 seed-whole : (s v : List ℕ) (own : Bool) (from n : ℕ) → n ≤ length v → seedPiece s own (from + 0) n ⊻ v ≡ cond own (part s from n) [] ⊻ v
@@ -57,6 +57,11 @@ module _ (s : List ℕ) (g : Geometry) (sent : List ℕ) (j : Job) (r : Ready s 
         apart = λ i k. rw (place-is i k) (r .apart i k);
       }
 
+  long : length (gathered s g sent (j .count) (j .sources) (j .int)) ≡ size g j
+  long =
+      gathered-long s g sent (j .count) (j .sources) (j .int) (r .some-source)
+      (λ e l. length-part s (startOf s g (sourceOf sent e)) (size g j) (r .inside e l)) (r .exact)
+
   sum-is : sumPiece s places sent j 0 (size g j) ≡ summed s g sent j
   unfolding sumPiece summed intPiece gathered
   sum-is =
@@ -69,7 +74,7 @@ module _ (s : List ℕ) (g : Geometry) (sent : List ℕ) (j : Job) (r : Ready s 
       ∙ sym (xorAll-append ys zs) in
       xor-regroups (seedPiece s (j .own) (j .from + 0) n) (xorAll (piecesFrom s places 0 n 0 (j .sources))) (intPiece (j .int) sent (8 + 8 * j .sources + 0) n)
       ∙ ap (_⊻_ (seedPiece s (j .own) (j .from + 0) n)) q
-      ∙ seed-whole s (xorAll (ys ++ zs)) (j .own) (j .from) n (omega (arith, length-gathered s g sent j r))
+      ∙ seed-whole s (xorAll (ys ++ zs)) (j .own) (j .from) n (omega (arith, long))
 
   pub gathered-by : (t : List ℕ) → t ≡ put s (j .to) (sumPiece s places sent j 0 (size g j)) → t ≡ put s (j .to) (summed s g sent j)
   gathered-by t e = e ∙ ap (put s (j .to)) sum-is

@@ -5,7 +5,7 @@ mod sources;
 
 use geometry::Geometry;
 ghost use mathlib.Core.Path.{_≡_};
-ghost use Prim.Native.Nat.{_+_, _<_, _≤_, min};
+ghost use Prim.Native.Nat.{_+_, _<_, _≤_};
 ghost use lib.ListN.{length};
 ghost use Rattle.octets.specs.Put.{put};
 ghost use Rattle.gather.specs.Job.{summed, Ready};
@@ -40,17 +40,10 @@ fn gather_by(image: &mut [u8], places: &[usize], sent: &[u8], j: Job, n: usize, 
 {
     let mut o = 0;
     while o < n {
-        let k = least(n - o, buf.len());
+        let k = octets::least(n - o, buf.len());
         gather_front(image, places, sent, j, n, o, k, buf);
         o += k;
     }
-}
-
-// The smaller number.
-pub fn least(a: usize, b: usize) -> usize
-    ensures { λ r. ⌜ r ≡ min a b ⌝ }
-{
-    if a < b { a } else { b }
 }
 
 // A piece of k bytes, through the front of buf.

@@ -5,8 +5,8 @@ use rules::Found;
 ghost use mathlib.Core.Path.{_≡_};
 ghost use Prim.Native.Nat.{_≤_};
 ghost use lib.ListN.{length};
+ghost use Rattle.rules.specs.Least.{index};
 ghost use Rattle.geometry.specs.Frame.{Framed};
-ghost use Rattle.meaning.specs.Acts.{index};
 ghost use Rattle.gather.specs.Job.{startOf, Named, Listed};
 ghost use Rattle.gather.specs.Starts.{startsOver};
 

@@ -10,6 +10,7 @@ use borrow.Author.Tests.{ltb-false, eqb-true, eqb-false, not-false}
 use Rattle.octets.specs.Number.{be}
 use Rattle.rules.specs.declared.Found.the-variants.{Nothing}
 use Rattle.rules.specs.Every.{holds}
+use Rattle.rules.specs.Least.{index}
 use Rattle.geometry.specs.declared.Geometry.{Geometry}
 use Rattle.geometry.specs.Places.{Range}
 use Rattle.drives.specs.Table.{driveOf, failed}
@@ -25,17 +26,17 @@ use Rattle.command.specs.declared.Op.{Op}
 use Rattle.command.specs.declared.Op.the-variants.{XdWrite, XpWrite, XdRead, Rebuild, Regenerate, Read, Write, Unknown}
 use Rattle.command.specs.declared.Command.{Command}
 use Rattle.command.specs.Command.{mirrorOf, ndiscOf, secOf, intOf, ownOf, resolvedOf, resolvedCount, listBytes}
+use Rattle.command.specs.Length.{resolved-some, resolved-same}
+use Rattle.command.specs.Sent.{sent-exact}
 use Rattle.meaning.specs.declared.Act.{Act}
 use Rattle.meaning.specs.declared.Act.the-variants.{Read as ToRead, Write as ToWrite, XpWrite as ToXpWrite, XdRead as ToXdRead, Couple, Retain, Rebuild as ToRebuild, Regenerate as ToRegenerate}
 use Rattle.meaning.specs.declared.Seen.{Seen}
 use Rattle.meaning.specs.declared.Fault.the-variants.{Clear}
 use Rattle.meaning.specs.declared.Decision.the-variants.{Stop, Go}
-use Rattle.meaning.specs.Acts.{index}
 use Rattle.meaning.specs.Sources.{ownEntry, firstBad}
 use Rattle.meaning.specs.Checks.{isNothing, commandChecks, acts, resolved, spanOf, secondOf}
 use Rattle.meaning.specs.Allowed.{Blocks, Free, Sourced, Allowed}
 use Rattle.licence.specs.Passed.{Passes, not-zero, with-it, without-it, found, nothing, elsewhere, clear}
-use Rattle.licence.specs.Sent.{resolved-some, resolved-same, sent-exact}
 use Rattle.licence.specs.Entries.{entries}
 
 -- the drive that an act works on

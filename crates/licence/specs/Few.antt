@@ -1,12 +1,13 @@
 -- A byte counts the sources, so an act that was decided has fewer than 256. Assumes nothing.
 use Prim.Native.Nat.{ℕ}
-use mathlib.Core.Bool.{Bool, true, false, cond}
 use mathlib.Core.List.{List}
 use mathlib.Core.Path.{_≡_, subst}
 use lib.Dec.{eqb}
 use lib.ListN.{getD}
 use Rattle.octets.specs.Octets.{Octets}
+use Rattle.rules.specs.Cases.{on-test}
 use Rattle.rules.specs.Rule.{passed}
+use Rattle.rules.specs.Least.{index}
 use Rattle.geometry.specs.declared.Geometry.{Geometry}
 use Rattle.geometry.specs.Header.{geometryOf}
 use Rattle.drives.specs.Table.{driveOf}
@@ -18,7 +19,6 @@ use Rattle.command.specs.Command.{opOf, commandOf, secOf}
 use Rattle.meaning.specs.declared.Act.{Act}
 use Rattle.meaning.specs.declared.Decision.{Decision}
 use Rattle.meaning.specs.declared.Decision.the-variants.{Stop, Go}
-use Rattle.meaning.specs.Acts.{index}
 use Rattle.meaning.specs.Checks.{acts, checks, carriedOut, decideOf}
 use Rattle.meaning.specs.Allowed.{Few}
 use Rattle.licence.specs.Each.{no-stop}
@@ -28,13 +28,9 @@ abbrev FewIn : Decision → Type 0
 FewIn (Stop n w x) = Unit {0}
 FewIn (Go x y) = Few x
 
-either-few : (c : Bool) (d e : Decision) → FewIn d → FewIn e → FewIn (cond c d e)
-either-few true d e p q = p
-either-few false d e p q = q
-
 module _ (m : List ℕ) (g : Geometry) (t : ℕ) (k : Command) (s : List ℕ) (b : Octets s) where
   acts-few : (o : Op) → FewIn (acts o m g t k s)
-  acts-few XdWrite = either-few (eqb (secOf k) 3) _ _ tt tt
+  acts-few XdWrite = on-test FewIn (eqb (secOf k) 3) (λ t. tt) (λ t. tt)
   acts-few XpWrite = tt
   acts-few XdRead = tt
   acts-few Rebuild = b 0

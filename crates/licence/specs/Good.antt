@@ -1,15 +1,16 @@
 -- GOOD without an act is check 6 or check 7: "GOOD for zero length", "list length zero", "Then GOOD for length 0". Assumes nothing.
-use Prim.Native.Nat.{ℕ, zero, suc, _<_}
-use native.Mathlib.Nat.{not-suc-le-zero}
+use Prim.Native.Nat.{ℕ}
 use native.Mathlib.Omega.{arith}
 use mathlib.Core.Bool.{Bool, true, false, cond, not}
-use mathlib.Core.List.{List, [], _∷_}
+use mathlib.Core.List.{List, map}
 use mathlib.Core.Path.{_≡_, refl, sym, ap, _∙_}
 use mathlib.Core.Logic.{_⊎_, inl, inr}
 use lib.Dec.{eqb}
-use lib.ListN.{length, getD}
+use lib.ListN.{getD, List·getD-map}
 use borrow.Author.Tests.{eqb-true}
+use Rattle.rules.specs.Every.{every, holds}
 use Rattle.rules.specs.Rule.{rule}
+use Rattle.rules.specs.Least.{index}
 use Rattle.geometry.specs.declared.Geometry.{Geometry}
 use Rattle.geometry.specs.Header.{geometryOf}
 use Rattle.drives.specs.Table.{driveOf}
@@ -21,8 +22,8 @@ use Rattle.command.specs.Command.{opOf}
 use Rattle.meaning.specs.declared.Fault.{Fault}
 use Rattle.meaning.specs.declared.Fault.the-variants.{Clear, Absent, Failed, Beyond}
 use Rattle.meaning.specs.declared.Seen.{Seen}
+use Rattle.meaning.specs.declared.Seen.the-variants.{Dash}
 use Rattle.meaning.specs.declared.Decision.the-variants.{Stop}
-use Rattle.meaning.specs.Acts.{index}
 use Rattle.meaning.specs.Checks.{Check, isFault, faultAnswer, checksFor, checks, decideOf}
 use Rattle.licence.specs.Why.{why}
 
@@ -34,17 +35,7 @@ abbrev fine : Check → Bool
 fine (rule n w b a) = cond (eqb (numberOf a) 0) (cond (idleCheck n) true (not b)) true
 
 abbrev allFine : List Check → Bool
-allFine [] = true
-allFine (q ∷ qs) = cond (fine q) (allFine qs) false
-
-both : (u v : Bool) → cond u v false ≡ true → (u ≡ true) × (v ≡ true)
-both true v h = (refl, h)
-both false v h = let z : _≡_ {A = ℕ} 0 1 = cc in absurd (omega arith)
-
-fine-at : (qs : List Check) (i : ℕ) (x : Check) → allFine qs ≡ true → i < length qs → fine (getD qs i x) ≡ true
-fine-at [] i x h l = absurd (not-suc-le-zero l)
-fine-at (q ∷ qs) zero x h l = both (fine q) (allFine qs) h .0
-fine-at (q ∷ qs) (suc i) x h l = fine-at qs i x (both (fine q) (allFine qs) h .1) (omega (arith, l))
+allFine qs = every (map fine qs)
 
 -- of the sources
 fault-fine : (f : Fault) → cond (eqb (numberOf (faultAnswer f)) 0) (not (isFault f)) true ≡ true
@@ -54,6 +45,7 @@ fault-fine (Failed i k) = refl
 fault-fine (Beyond i) = refl
 
 checks-fine : (o : Op) (m : List ℕ) (g : Geometry) (a t : ℕ) (c s : List ℕ) (r : ℕ) → allFine (checksFor o m g a t c s r) ≡ true
+unfolding every
 checks-fine XdWrite m g a t c s r = refl
 checks-fine XpWrite m g a t c s r = refl
 checks-fine XdRead m g a t c s r = refl
@@ -68,8 +60,9 @@ good-idle m a c s r n w e =
     let h = why m a c s r n w Good e in
     let g = geometryOf m in
     let all = checks-fine (opOf (getD c 0 0)) m g a (index (driveOf m g a)) c s r in
-    let x : Check = rule n w true Good in
-    let f : fine (rule n w true Good) ≡ true = ap fine (sym (h .itself x)) ∙ fine-at (checks m a c s r) (h .place) x all (h .there) in
+    let x : Check = rule 0 Dash false Good in
+    let f : fine (rule n w true Good) ≡ true =
+    ap fine (sym (h .itself x)) ∙ sym (List·getD-map fine (checks m a c s r) (h .place) x) ∙ holds (map fine (checks m a c s r)) (h .place) all in
     pick (eqb n 6) (eqb n 7) refl refl f
   where
     pick : (u v : Bool) → eqb n 6 ≡ u → eqb n 7 ≡ v → cond (cond u true v) true false ≡ true → (n ≡ 6) ⊎ (n ≡ 7)

@@ -6,6 +6,7 @@ use lib.ListN.{getD}
 use borrow.Author.Tests.{not-false}
 use Rattle.rules.specs.declared.Found.the-variants.{At}
 use Rattle.rules.specs.Rule.{passed}
+use Rattle.rules.specs.Least.{index}
 use Rattle.geometry.specs.Header.{geometryOf}
 use Rattle.drives.specs.Table.{driveOf}
 use Rattle.drives.specs.Lookup.{drive-inside}
@@ -15,7 +16,6 @@ use Rattle.sense.specs.declared.Answer.the-variants.{Good}
 use Rattle.command.specs.Command.{opOf, commandOf}
 use Rattle.meaning.specs.declared.Act.{Act}
 use Rattle.meaning.specs.declared.Decision.the-variants.{Stop, Go}
-use Rattle.meaning.specs.Acts.{index}
 use Rattle.meaning.specs.Checks.{commandChecks, checks, carriedOut, decideOf}
 use Rattle.meaning.specs.Allowed.{Allowed}
 use Rattle.licence.specs.Passed.{passes, found}

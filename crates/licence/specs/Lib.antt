@@ -1,5 +1,4 @@
 pub mod Passed
-pub mod Sent
 pub mod Entries
 pub mod Each
 pub mod Granted

@@ -1,20 +1,20 @@
 -- What a check that has passed says. Assumes nothing.
-use Prim.Native.Nat.{ℕ, zero, suc, _≤_}
+use Prim.Native.Nat.{ℕ, _≤_}
 use native.Mathlib.Omega.{arith}
 use mathlib.Core.Bool.{Bool, true, false, not, _&&_}
-use mathlib.Core.List.{List, [], _∷_}
+use mathlib.Core.List.{List}
 use mathlib.Core.Path.{_≡_, refl}
 use lib.Dec.{eqb}
 use lib.ListN.{getD}
 use borrow.Author.Tests.{eqb-false}
 use Rattle.rules.specs.declared.Found.{Found}
 use Rattle.rules.specs.declared.Found.the-variants.{At, Nothing}
-use Rattle.rules.specs.Rule.{rule, applies, AllPass}
+use Rattle.rules.specs.Rule.{rule, applies, AllPass, pass-at}
+use Rattle.rules.specs.Least.{index}
 use Rattle.sense.specs.declared.Answer.the-variants.{Good}
 use Rattle.meaning.specs.declared.Seen.the-variants.{Dash}
 use Rattle.meaning.specs.declared.Fault.{Fault}
 use Rattle.meaning.specs.declared.Fault.the-variants.{Clear, Absent, Failed, Beyond}
-use Rattle.meaning.specs.Acts.{index}
 use Rattle.meaning.specs.Sources.{isAt}
 use Rattle.meaning.specs.Checks.{Check, isNothing, isFault}
 
@@ -23,9 +23,7 @@ abbrev pub Passes : List Check → Type 0
 Passes rs = (i : ℕ) → applies (getD rs i (rule 0 Dash false Good)) ≡ false
 
 pub passes : (rs : List Check) → AllPass rs → Passes rs
-passes [] p i = refl
-passes (rule n w b a ∷ rs) p zero = p .0
-passes (rule n w b a ∷ rs) p (suc i) = passes rs (p .1) i
+passes rs p = pass-at rs (rule 0 Dash false Good) refl p
 
 -- ---- the tests
 

@@ -1,11 +1,9 @@
 -- Where the tests of a stage have passed, and what a search has found, or nothing. Assumes nothing.
-use Prim.Native.Nat.{ℕ, _+_, _*_, _≤_}
-use native.Mathlib.Omega.{arith}
-use mathlib.Core.Bool.{Bool, true, false, cond}
+use Prim.Native.Nat.{ℕ, _≤_}
+use mathlib.Core.Bool.{Bool, false}
 use mathlib.Core.List.{List}
-use mathlib.Core.Path.{_≡_, refl, _∙_}
-use lib.Dec.{eqb}
-use borrow.Author.Tests.{eqb-true, ne-eqb, le-ltb}
+use mathlib.Core.Path.{_≡_, _∙_}
+use borrow.Author.Tests.{ne-eqb, le-ltb}
 use Rattle.rules.specs.declared.Found.{Found}
 use Rattle.rules.specs.declared.Found.the-variants.{At, Nothing}
 use Rattle.geometry.specs.declared.Geometry.{Geometry}
@@ -21,16 +19,6 @@ use Rattle.meaning.specs.Sources.{firstBad}
 use Rattle.meaning.specs.Checks.{spanOf}
 use Rattle.several.specs.declared.list.Head.{Head}
 use Rattle.several.specs.Stages.{faultOr, rebuiltOf, gatheredOf, regeneratedOf, placedOf, lengthOf, ownedOf, headOf, headedOf, listedOf, countedOf, fieldsOf, unbounded, rebuildOf}
-
--- the list is among the bytes that were sent
-pub list-fits : (k : Command) (L n : ℕ) → n ≡ listBytes k L → k .list ≤ n
-unfolding listBytes
-list-fits k L n e = pick (eqb (k .list) 0) (eqb (intOf k) 0) refl e
-  where
-    pick : (u v : Bool) → eqb (k .list) 0 ≡ u → n ≡ cond u 0 (cond v (k .list) (k .list + k .count * L)) → k .list ≤ n
-    pick true v p e = let z : k .list ≡ 0 = eqb-true _ _ p in omega arith
-    pick false true p e = omega arith
-    pick false false p e = omega arith
 
 module _ (m : List ℕ) (g : Geometry) (t : ℕ) (k : Command) (s : List ℕ) where
   -- ---- where the tests have passed

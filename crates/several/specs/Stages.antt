@@ -8,6 +8,7 @@ use lib.ListN.{length, getD}
 use Rattle.octets.specs.Number.{be}
 use Rattle.rules.specs.declared.Found.{Found}
 use Rattle.rules.specs.Rule.{rule, first}
+use Rattle.rules.specs.Least.{index}
 use Rattle.geometry.specs.declared.Geometry.{Geometry}
 use Rattle.slots.specs.Find.{emptySlot}
 use Rattle.sense.specs.declared.Answer.the-variants.{Good, Busy, WrongCount, BadField, BadListLength, BadList}
@@ -18,7 +19,6 @@ use Rattle.meaning.specs.declared.Fault.{Fault}
 use Rattle.meaning.specs.declared.Seen.the-variants.{Dash, Cdb, List as InList, Entry}
 use Rattle.meaning.specs.declared.Decision.{Decision}
 use Rattle.meaning.specs.declared.Decision.the-variants.{Stop, Go}
-use Rattle.meaning.specs.Acts.{index}
 use Rattle.meaning.specs.Sources.{ownEntry, firstBad}
 use Rattle.meaning.specs.Checks.{isNothing, zeroSix, zeroControl, resolved, inRange, sourceRules, spanOf}
 use Rattle.several.specs.declared.list.Head.{Head}

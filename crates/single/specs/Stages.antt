@@ -7,6 +7,7 @@ use lib.Dec.{eqb}
 use lib.ListN.{length}
 use Rattle.rules.specs.declared.Found.{Found}
 use Rattle.rules.specs.Rule.{rule, first}
+use Rattle.rules.specs.Least.{index}
 use Rattle.geometry.specs.declared.Geometry.{Geometry}
 use Rattle.slots.specs.Record.{slotOf}
 use Rattle.slots.specs.Find.{newestOf}
@@ -16,7 +17,6 @@ use Rattle.meaning.specs.declared.Act.the-variants.{Read, Write, XpWrite, XdRea
 use Rattle.meaning.specs.declared.Seen.the-variants.{Dash, Cdb}
 use Rattle.meaning.specs.declared.Decision.{Decision}
 use Rattle.meaning.specs.declared.Decision.the-variants.{Stop, Go}
-use Rattle.meaning.specs.Acts.{index}
 use Rattle.meaning.specs.Checks.{isNothing, zeroSix, zeroControl, aboveM, inRange, roomRule, spanOf}
 
 -- ---- READ, WRITE, XPWRITE

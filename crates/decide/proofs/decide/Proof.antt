@@ -2,6 +2,7 @@
 use mathlib.Core.Path.{sym, _∙_}
 use borrow.Author.Needs.{needs}
 use Rattle.decide.specs.Called.{called-drive, called-refused}
+use Rattle.meaning.specs.declared.Decision.the-variants.{Stop}
 use Rattle.meaning.specs.Checks.{decideOf}
 use Rattle.decide.specs.Joined.{decide-on}
 use Rattle.decide.proofs.decide.Statement.{statement}
@@ -15,7 +16,7 @@ opened-requires c κs =
 
 returns : tie.Need-returns
 unfolding decideOf
-returns c = called-refused _ _ _ _ (sym (c .before .before .before .called .ensures) ∙ c .before .answer .given .1)
+returns c = called-refused _ _ Stop _ _ (sym (c .before .before .before .called .ensures) ∙ c .before .answer .given .1)
 
 returns-2 : tie.Need-returns-2
 returns-2 c =

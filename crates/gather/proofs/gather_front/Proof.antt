@@ -3,7 +3,6 @@ use mathlib.Core.Path.{sym}
 use native.Mathlib.Omega.{arith}
 use lib.Seq.{length-take-le}
 use borrow.Author.Needs.{needs}
-use Rattle.gather.specs.Steps.{piece-front}
 use Rattle.gather.proofs.gather_front.Statement.{statement}
 use Rattle.gather.proofs.gather_front.Tie as tie
 
@@ -24,7 +23,7 @@ returns c =
     let args = c .before .before .before .before .before .before .before .before .before .before .before .args in
     let pre = c .before .before .before .before .before .before .before .before .before .before .before .pre in
     let gather-piece = c .before .before .before .before .gather-piece in
-    piece-front _ _ _ (args .j) (args .o) (args .k) (args .buf .now) _ (pre .2) (gather-piece .ensures)
+    rw (length-take-le (args .k) (args .buf .now) (pre .2)) at (gather-piece .ensures)
 
 pub gather-front-spec : {M : Type 1} → statement M
 gather-front-spec =

@@ -1,8 +1,8 @@
 -- `several::counted` meets its contract. Assumes nothing.
 use mathlib.Core.Path.{_∙_}
 use Rattle.rules.specs.Tests.{tests}
+use Rattle.command.specs.Sent.{list-fits}
 use Rattle.several.specs.Stages.{countedOf}
-use Rattle.several.specs.Laws.{list-fits}
 use Rattle.several.proofs.counted.Statement.{statement}
 use Rattle.several.proofs.counted.Tie as tie
 

@@ -1,7 +1,8 @@
 -- `act::moves::read` meets its contract. Assumes nothing.
 use native.Mathlib.Omega.{arith}
 use borrow.Author.Needs.{needs}
-use Rattle.act.specs.Moves.{span-in, handed-by}
+use Rattle.meaning.specs.Lengths.{span-in}
+use Rattle.act.specs.Moves.{handed-by}
 use Rattle.act.proofs.moves.read.Statement.{statement}
 use Rattle.act.proofs.moves.read.Tie as tie
 

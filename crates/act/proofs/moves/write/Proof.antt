@@ -4,7 +4,7 @@ use Prim.Native.Nat.{ℕ}
 use native.Mathlib.Omega.{arith}
 use borrow.Author.Needs.{needs}
 use Rattle.octets.specs.Put.{put}
-use Rattle.act.specs.Moves.{span-in}
+use Rattle.meaning.specs.Lengths.{span-in}
 use Rattle.act.proofs.moves.write.Statement.{statement}
 use Rattle.act.proofs.moves.write.Tie as tie
 

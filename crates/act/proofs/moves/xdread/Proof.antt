@@ -3,7 +3,8 @@ use mathlib.Core.Path.{ap}
 use Prim.Native.Nat.{ℕ, _+_}
 use native.Mathlib.Omega.{arith}
 use borrow.Author.Needs.{needs}
-use Rattle.act.specs.Moves.{data-in, handed-by}
+use Rattle.geometry.specs.Places.{data-in}
+use Rattle.act.specs.Moves.{handed-by}
 use Rattle.act.proofs.moves.xdread.Statement.{statement}
 use Rattle.act.proofs.moves.xdread.Tie as tie
 

@@ -1,7 +1,8 @@
 -- `act::moves::xpwrite` meets its contract. Assumes nothing.
 use native.Mathlib.Omega.{arith}
 use borrow.Author.Needs.{needs}
-use Rattle.act.specs.Moves.{span-in, xored-by}
+use Rattle.meaning.specs.Lengths.{span-in}
+use Rattle.act.specs.Moves.{xored-by}
 use Rattle.act.proofs.moves.xpwrite.Statement.{statement}
 use Rattle.act.proofs.moves.xpwrite.Tie as tie
 

@@ -3,7 +3,6 @@ use mathlib.Core.Path.{sym}
 use native.Mathlib.Omega.{arith}
 use lib.Seq.{length-take-le}
 use borrow.Author.Needs.{needs}
-use Rattle.act.specs.PassSteps.{piece-front}
 use Rattle.act.proofs.pass.pass_front.Statement.{statement}
 use Rattle.act.proofs.pass.pass_front.Tie as tie
 
@@ -24,7 +23,7 @@ returns c =
     let args = c .before .before .before .before .before .before .before .before .before .before .args in
     let pre = c .before .before .before .before .before .before .before .before .before .before .pre in
     let pass-piece = c .before .before .before .before .pass-piece in
-    piece-front _ _ (args .p) (args .o) (args .k) (args .buf .now) _ (pre .2) (pass-piece .ensures)
+    rw (length-take-le (args .k) (args .buf .now) (pre .2)) at (pass-piece .ensures)
 
 pub pass-front-spec : {M : Type 1} → statement M
 pass-front-spec =

@@ -1,0 +1,6 @@
+-- What the contracts of this crate's inner functions say of the outcome: a private module is not seen from outside, so it is passed on here, for the laws of `once`. Assumes nothing.
+use borrow.Fn.Kinds.{Out}
+use Rattle.decide.proofs as decide
+
+abbrev pub flagged : Out 2 decide.each.flagged.Kinds.ps decide.each.flagged.Kinds.r
+flagged = decide.each.flagged.Reads.Post

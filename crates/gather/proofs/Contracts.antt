@@ -1,0 +1,15 @@
+-- What the contracts of this crate's inner functions say of the outcome: a private module is not seen from outside, so it is passed on here, for the laws of `once`. Assumes nothing.
+use borrow.Fn.Kinds.{Out}
+use Rattle.gather.proofs as gather
+
+abbrev pub seed : Out 2 gather.operands.seed.Kinds.ps gather.operands.seed.Kinds.r
+seed = gather.operands.seed.Reads.Post
+
+abbrev pub xor-sources : Out 3 gather.operands.xor_sources.Kinds.ps gather.operands.xor_sources.Kinds.r
+xor-sources = gather.operands.xor_sources.Reads.Post
+
+abbrev pub xor-int : Out 2 gather.operands.xor_int.Kinds.ps gather.operands.xor_int.Kinds.r
+xor-int = gather.operands.xor_int.Reads.Post
+
+abbrev pub find-all : Out 3 gather.sources.find_all.Kinds.ps gather.sources.find_all.Kinds.r
+find-all = gather.sources.find_all.Reads.Post
