@@ -2,7 +2,6 @@
 use Prim.Native.Nat.{ℕ, _+_, _*_, _≤_, _<_}
 use mathlib.Core.Bool.{true, false}
 use mathlib.Core.Path.{_≡_}
-use mathlib.Core.Logic.{_⊎_}
 use mathlib.Core.List.{List, [], map, List·Memᴰ, List·Permᴰ}
 use lib.ListN.{length, replicate}
 use Rattle.octets.specs.Put.{put}
@@ -18,9 +17,12 @@ use Rattle.sense.specs.declared.Answer.{Answer}
 use Rattle.sense.specs.declared.Answer.the-variants.{Good}
 use Rattle.meaning.specs.Step.{stepImage, stepOutcome, resetImage, markImage}
 use Rattle.meaning.specs.Calls.{Call, command, reset, marking}
+use Rattle.callers.specs.Bytes.{Together, rebuildCdb}
+use Rattle.callers.specs.Lists.{listOf}
+use Rattle.callers.specs.Sources.{sourceAt}
+use Rattle.callers.specs.Listed.{HowLong}
 use Rattle.parity.specs.Ledger.{Line, runTo, ledgerTo, FairTo}
 use Rattle.parity.specs.Owed.{isOwed, inRow, owed}
-use Rattle.parity.specs.RebuildBytes.{rebuildCdb, rebuildList}
 use Rattle.parity.specs.Others.{others}
 
 -- ---- steps
@@ -81,14 +83,6 @@ pub record Whole (after : Call → List ℕ → List ℕ) (m : List ℕ) (g : Ge
   pub nothing-owed : NothingOwed g b n (ledgerTo after xs m [])
   pub all-present : AllPresent (runTo after xs m) g
 
--- Sec Ctl 00 or 10
-abbrev pub Together : ℕ → Type 0
-Together sec = (sec ≡ 0) ⊎ (sec ≡ 2)
-
--- "length FFFFFFFFh means to the last block": the length of n blocks from block b on, of a drive of B
-abbrev pub HowLong : ℕ → ℕ → ℕ → ℕ → Type 0
-HowLong B b n count = (count ≡ n) ⊎ ((count ≡ 0xFFFFFFFF) × (b + n ≡ B))
-
 -- the n rows from row b on; any bytes ys over drive d's blocks there; as sources the drives es, "every other drive once and nothing else",
 -- in any order
 pub record Overwriting (g : Geometry) (d b n : ℕ) (ys es : List ℕ) (sec count : ℕ) : Type 0 where
@@ -107,7 +101,7 @@ overwritten m g d b ys = put m (place g d b) ys
 -- REBUILD to drive d on that image, "at the same blocks"
 abbrev pub rebuilt : AnyStep → List ℕ → Geometry → ℕ → ℕ → List ℕ → List ℕ → ℕ → ℕ → List ℕ → Done
 rebuilt step m g d b ys es sec count room =
-    step (overwritten m g d b ys) (addressOf m g d) (rebuildCdb sec count (length es)) (rebuildList b (map (addressOf m g) es)) room
+    step (overwritten m g d b ys) (addressOf m g d) (rebuildCdb sec count (length es)) (listOf b (map (sourceAt m g b) es) []) room
 
 -- it answers GOOD and leaves the image of before the overwriting, slots and all
 pub record BringsBack (m : List ℕ) (x : Done) : Type 0 where

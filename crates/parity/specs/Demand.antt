@@ -23,8 +23,8 @@ use Rattle.meaning.specs.declared.Decision.the-variants.{Go}
 use Rattle.meaning.specs.Allowed.{Allowed}
 use Rattle.meaning.specs.Step.{decided, stepImage}
 use Rattle.meaning.specs.Calls.{Call, command, reset, marking, afterCall, afterCalls}
-use Rattle.demands.specs.Retained.{newest-handed}
 use Rattle.licence.specs.Granted.{granted}
+use Rattle.demands.specs.Retained.{newest-handed}
 use Rattle.parity.specs.Ledger.{Line, notedCall, FairCall, ledgerTo, FairTo, fair-front, ledger, Fair}
 use Rattle.parity.specs.Owed.{owed, owed-none, owed-nothing, length-owed}
 use Rattle.parity.specs.Waiting.{waiting, waiting-none}

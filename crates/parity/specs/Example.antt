@@ -1,21 +1,18 @@
 -- The bench shelf of 01: a run that pays what it owes, a reset that leaves a row open for good, and a REBUILD. Assumes nothing.
-use Prim.Native.Nat.{ℕ, zero, suc, _<_}
-use native.Mathlib.Nat.{zero-lt-suc}
+use Prim.Native.Nat.{ℕ, zero, suc}
 use native.Mathlib.Omega.{arith}
-use mathlib.Core.Bool.{Bool, true, false, cond, false≢true}
+use mathlib.Core.Bool.{true, false≢true}
 use mathlib.Core.Path.{_≡_, refl, sym, ap, subst, _∙_}
 use mathlib.Core.Logic.{inr, ⊎-elim}
-use mathlib.Core.List.{List, [], _∷_, _++_, List·Memᴰ·head, List·Memᴰ·not-nil, List·Memᴰ·cases-cons, List·Permᴰ·swap}
-use lib.Dec.{ltb, lit≤}
-use lib.ListN.{getD, replicate}
-use borrow.Author.Tests.{ltb-true}
+use mathlib.Core.List.{List, [], _∷_, _++_, List·Memᴰ, List·Memᴰ·head, List·Memᴰ·not-nil, List·Memᴰ·cases-cons, List·Permᴰ·swap}
+use lib.Dec.{lit≤}
+use lib.ListN.{replicate}
 use Rattle.octets.specs.Part.{part}
 use Rattle.octets.specs.Put.{put}
-use Rattle.octets.specs.Octets.{Octets}
+use Rattle.octets.specs.Octets.{small-octets}
 use Rattle.octets.specs.Xor.{_⊻_}
 use Rattle.octets.specs.Operands.{xorAll}
 use Rattle.octets.specs.Number.{num, toBe}
-use Rattle.rules.specs.Cases.{either}
 use Rattle.rules.specs.Every.{every}
 use Rattle.rules.specs.All.{allBelow}
 use Rattle.rules.specs.Count.{countBelow}
@@ -32,10 +29,12 @@ use Rattle.results.specs.Results.{Result, results}
 use Rattle.results.specs.Ages.{agesTo, slotRanked}
 use Rattle.image.specs.Valid.{validImage}
 use Rattle.image.specs.Bench.{bench}
+use Rattle.command.specs.Lossless.{cdbOf}
 use Rattle.sums.specs.Row.{summedTo, rowSum}
 use Rattle.sums.specs.Share.{share}
-use Rattle.command.specs.Command.{opOf, sixteenOf, tenOf, listedOf, ownOf, resolvedOf, listBytes, sourceOf}
 use Rattle.sense.specs.declared.Answer.the-variants.{Good}
+use Rattle.command.specs.Command.{opOf, sixteenOf, tenOf, listedOf, ownOf, resolvedOf, listBytes, sourceOf}
+use Rattle.meaning.specs.declared.Span.{Span}
 use Rattle.meaning.specs.Acts.{sourcesFrom, gathered}
 use Rattle.meaning.specs.Sources.{ownEntry, driveBad, entryBad, firstBad}
 use Rattle.meaning.specs.Checks.{decideOf}
@@ -94,18 +93,26 @@ pub run-computed :
 unfolding decideOf stepImage resetImage markImage validImage framedOk rangesOk offsetsOk tableOk statesOk newAddress addressesOk slotsOk eachOk ranksOk slotOk slotOf slotAt place every allBelow countBelow leastBelow driveOf emptySlot newestOf bestOf better released lowered lowerOne dropped droppedTo dropOne marked bytesOf part put num toBe _⊻_ xorAll opOf sixteenOf tenOf rowSum summedTo owed keeping share
 run-computed = (refl, refl, refl, refl, refl)
 
--- its XPWRITE carries the result
-pub carried : Carries (line (ofFirst result) true Read ∷ []) (record { drive = 2; block = record { 0 = 0 }; count = 1 }) result
-carried =
+-- block 0 of drive 3
+abbrev pub third : Span
+third = record { drive = 2; block = record { 0 = 0 }; count = 1 }
+
+-- a line that is read can be carried there
+pub carries : (es : List Line) → List·Memᴰ (line (ofFirst result) true Read) es → Carries es third result
+carries es m =
     record {
       one = line (ofFirst result) true Read;
-      listed = List·Memᴰ·head refl;
+      listed = m;
       owed = refl;
       read = refl;
       same-block = refl;
       same-len = refl;
       same-bytes = refl;
     }
+
+-- its XPWRITE carries the result
+pub carried : Carries (line (ofFirst result) true Read ∷ []) third result
+carried = carries (line (ofFirst result) true Read ∷ []) (List·Memᴰ·head refl)
 
 -- it is a run of the demand
 pub losing-fair : Fair losing bench
@@ -114,20 +121,6 @@ losing-fair =
     ((λ e. refl), (tt, (tt, (tt, (tt, (carried, ((refl, refl), ((λ e. refl), (tt, tt)))))))))
 
 -- ---- nothing is owed, and drive 2 comes back
-
-abbrev pub allSmall : List ℕ → Bool
-allSmall [] = true
-allSmall (x ∷ xs) = cond (ltb x 256) (allSmall xs) false
-
-pub small-octets : (xs : List ℕ) → allSmall xs ≡ true → Octets xs
-small-octets [] e i = zero-lt-suc 255
-small-octets (x ∷ xs) e i =
-    ⊎-elim (λ (t : ltb x 256 ≡ true). pick i (ltb-true x 256 t) (small-octets xs (rw t at e)))
-    (λ (t : ltb x 256 ≡ false). absurd (false≢true (rw t at e))) (either (ltb x 256))
-  where
-    pick : (i : ℕ) → x < 256 → Octets xs → getD (x ∷ xs) i 0 < 256
-    pick zero l o = l
-    pick (suc i) l o = o i
 
 pub bench-zero : ZeroSums bench benchShape 0 2
 unfolding rowSum summedTo place part _⊻_
@@ -174,5 +167,5 @@ both-rows =
     }
 
 pub rebuilt-computed : rebuilt theStep paidImage benchShape 1 0 junk (0 ∷ 2 ∷ []) 2 0xFFFFFFFF room ≡ done paidImage Good
-unfolding decideOf stepImage stepOutcome validImage framedOk rangesOk offsetsOk tableOk statesOk newAddress addressesOk slotsOk eachOk ranksOk slotOk slotOf slotAt place every allBelow countBelow leastBelow driveOf part put num toBe _⊻_ xorAll sourcesFrom gathered opOf listedOf ownOf resolvedOf listBytes sourceOf ownEntry driveBad entryBad firstBad
+unfolding cdbOf decideOf stepImage stepOutcome validImage framedOk rangesOk offsetsOk tableOk statesOk newAddress addressesOk slotsOk eachOk ranksOk slotOk slotOf slotAt place every allBelow countBelow leastBelow driveOf part put num toBe _⊻_ xorAll sourcesFrom gathered opOf listedOf ownOf resolvedOf listBytes sourceOf ownEntry driveBad entryBad firstBad
 rebuilt-computed = refl

@@ -4,10 +4,8 @@ pub mod Waiting
 pub mod OneAct
 pub mod OneCall
 pub mod Others
-pub mod RebuildBytes
 pub mod AnyStep
 pub mod OldBytes
-pub mod RebuildPasses
 pub mod Restores
 pub mod Demand
 pub mod Example

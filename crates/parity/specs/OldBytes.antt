@@ -1,36 +1,20 @@
 -- Over adjoining rows whose sums are zero, the XOR of every other drive's blocks is the old bytes of the drive left out. Assumes nothing.
-use Prim.Native.Nat.{ℕ, zero, suc, _+_, _*_, _≤_, _<_}
-use native.Mathlib.Nat.{suc-mul, zero-mul, zero-add}
+use Prim.Native.Nat.{ℕ, _+_, _*_, _≤_, _<_}
 use native.Mathlib.Omega.{arith}
 use mathlib.Core.Path.{_≡_, refl, sym, ap, ap₂, _∙_}
-use mathlib.Core.List.{List, [], _∷_, _++_, map, List·Permᴰ}
+use mathlib.Core.List.{List, [], _∷_, map, List·Permᴰ}
 use lib.ListN.{length, replicate}
-use Rattle.octets.specs.Part.{part, length-part, part-part, part-add, part-all}
+use Rattle.octets.specs.Part.{part, length-part, part-part}
+use Rattle.octets.specs.Pieces.{block-inside, blocks-ext}
 use Rattle.octets.specs.Operands.{xorAll, Long, length-xorAll, partsOf, part-xorAll}
 use Rattle.geometry.specs.declared.Geometry.{Geometry}
 use Rattle.geometry.specs.Header.{place}
 use Rattle.geometry.specs.Frame.{Framed}
 use Rattle.geometry.specs.Places.{Range, place-on, range-room}
-use Rattle.sums.specs.Laws.{block-inside}
 use Rattle.sums.specs.Row.{blockIn, rowSum}
 use Rattle.sums.specs.Bytes.{length-block}
-use Rattle.parity.specs.Others.{others, Other, EachIs, perm-length, perm-each, others-each, length-others, left-out}
-
--- two lists of n blocks of l bytes that agree block by block
-module _ (l : ℕ) (xs ys : List ℕ) where
-  fronts : (n : ℕ) → ((k : ℕ) → k < n → part xs (k * l) l ≡ part ys (k * l) l) → part xs 0 (n * l) ≡ part ys 0 (n * l)
-  unfolding part
-  fronts zero h = let e : 0 * l ≡ 0 = zero-mul l in rw e
-  fronts (suc n) h =
-      let e : suc n * l ≡ n * l + l = suc-mul n l in
-      let z : 0 + n * l ≡ n * l = zero-add (n * l) in
-      let cut : (zs : List ℕ) → part zs 0 (suc n * l) ≡ part zs 0 (n * l) ++ part zs (n * l) l =
-      (λ zs. ap (part zs 0) e ∙ part-add zs 0 (n * l) l ∙ ap (λ (k : ℕ). part zs 0 (n * l) ++ part zs k l) z) in
-      cut xs ∙ ap₂ _++_ (fronts n (λ k lk. h k (omega arith))) (h n (omega arith)) ∙ sym (cut ys)
-
-  pub blocks-ext : (n : ℕ) → length xs ≡ n * l → length ys ≡ n * l → ((k : ℕ) → k < n → part xs (k * l) l ≡ part ys (k * l) l) → xs ≡ ys
-  blocks-ext n hx hy h =
-      sym (part-all xs) ∙ ap (part xs 0) hx ∙ fronts n h ∙ ap (part ys 0) (sym hy) ∙ part-all ys
+use Rattle.callers.specs.Each.{EachIs}
+use Rattle.parity.specs.Others.{others, Other, perm-length, perm-each, others-each, length-others, left-out}
 
 -- drive e's blocks of the n rows from row b on
 abbrev pub rowsOf : List ℕ → Geometry → ℕ → ℕ → ℕ → List ℕ

@@ -2,7 +2,7 @@
 use mathlib.Core.Bool.{true, false≢true}
 use mathlib.Core.Path.{_≡_, refl, sym, ap, _∙_}
 use mathlib.Core.Logic.{⊎-elim}
-use mathlib.Core.List.{List, [], _∷_, _++_, List·Memᴰ, List·Memᴰ·head, List·Memᴰ·tail, List·Memᴰ·not-nil, List·Memᴰ·cases-cons}
+use mathlib.Core.List.{List, [], _∷_, _++_, List·Memᴰ·head, List·Memᴰ·tail, List·Memᴰ·not-nil, List·Memᴰ·cases-cons}
 use Rattle.octets.specs.Part.{part}
 use Rattle.octets.specs.Put.{put}
 use Rattle.octets.specs.Xor.{_⊻_}
@@ -24,14 +24,13 @@ use Rattle.image.specs.Bench.{bench}
 use Rattle.sums.specs.Row.{summedTo, rowSum}
 use Rattle.sums.specs.Share.{share}
 use Rattle.command.specs.Command.{opOf, sixteenOf, tenOf}
-use Rattle.meaning.specs.declared.Span.{Span}
 use Rattle.meaning.specs.Checks.{decideOf}
 use Rattle.meaning.specs.Step.{stepImage}
 use Rattle.meaning.specs.Calls.{Call, command, afterCalls}
 use Rattle.meaning.specs.Cases.{zeros, one, fresh, result, xdwrite, ten, room}
 use Rattle.parity.specs.Ledger.{Fate, Read, Carried, Line, line, isRead, Carries, Fair, ledger}
 use Rattle.parity.specs.Owed.{owed}
-use Rattle.parity.specs.Example.{benchShape, ofFirst}
+use Rattle.parity.specs.Example.{benchShape, ofFirst, third, carries}
 
 -- drive 1 gets new data and then its old block back; both results are read
 abbrev pub twice : List Call
@@ -60,23 +59,6 @@ pub twice-computed :
     × (rowSum (afterCalls (twice ++ carry ∷ carry ∷ []) bench) benchShape 0 ≡ zeros)
 unfolding decideOf stepImage validImage framedOk rangesOk offsetsOk tableOk statesOk newAddress addressesOk slotsOk eachOk ranksOk slotOk slotOf slotAt place every allBelow countBelow leastBelow driveOf emptySlot newestOf bestOf better released lowered lowerOne bytesOf part put num toBe _⊻_ xorAll opOf sixteenOf tenOf rowSum summedTo owed keeping share
 twice-computed = (refl, refl, refl, refl, refl, refl, refl)
-
--- block 0 of drive 3
-abbrev third : Span
-third = record { drive = 2; block = record { 0 = 0 }; count = 1 }
-
--- a line that is read can be carried
-carries : (es : List Line) → List·Memᴰ (line (ofFirst result) true Read) es → Carries es third result
-carries es m =
-    record {
-      one = line (ofFirst result) true Read;
-      listed = m;
-      owed = refl;
-      read = refl;
-      same-block = refl;
-      same-len = refl;
-      same-bytes = refl;
-    }
 
 pub twice-fair : Fair (twice ++ carry ∷ carry ∷ []) bench
 unfolding decideOf stepImage validImage framedOk rangesOk offsetsOk tableOk statesOk newAddress addressesOk slotsOk eachOk ranksOk slotOk slotOf slotAt place every allBelow countBelow leastBelow driveOf emptySlot newestOf bestOf better released lowered lowerOne bytesOf part put num toBe _⊻_ xorAll opOf sixteenOf tenOf

@@ -4,29 +4,28 @@ use Prim.Native.Nat.{ℕ, _*_, _≤_, _<_}
 use native.Mathlib.Omega.{arith}
 use mathlib.Core.Bool.{Bool, true, false, _&&_, cond, true≢false}
 use mathlib.Core.Path.{_≡_, refl, sym, ap, ap₂, _∙_}
-use mathlib.Core.Logic.{inl, inr, ⊎-elim}
+use mathlib.Core.Logic.{inr, ⊎-elim}
 use mathlib.Core.List.{List, [], _∷_, _++_}
 use lib.Dec.{eqb}
 use lib.ListN.{length}
 use borrow.Author.Tests.{eq-eqb, eqb-true}
 use Rattle.octets.specs.Put.{put}
-use Rattle.octets.specs.PutPut.{part-put-apart}
-use Rattle.octets.specs.Xor.{_⊻_, length-xor-le, xor-commutes, xor-regroups, xor-cancels}
-use Rattle.rules.specs.Cases.{either, apart}
+use Rattle.octets.specs.Xor.{_⊻_, length-xor-le, xor-commutes, xor-regroups, xor-cancels, xor-meets, xor-again}
+use Rattle.rules.specs.Cases.{either}
 use Rattle.rules.specs.declared.Found.the-variants.{At}
 use Rattle.geometry.specs.declared.Geometry.{Geometry}
 use Rattle.geometry.specs.Header.{place}
 use Rattle.geometry.specs.Frame.{Framed}
-use Rattle.geometry.specs.Places.{place-after-media, place-before}
+use Rattle.geometry.specs.Places.{place-after-media}
+use Rattle.geometry.specs.Written.{other-drive}
 use Rattle.slots.specs.Find.{emptySlot}
+use Rattle.slots.specs.Kept.{media-empty}
 use Rattle.results.specs.First.{sansFirst}
 use Rattle.results.specs.Results.{Result, Sound, results, withResult}
 use Rattle.results.specs.Newest.{answers}
 use Rattle.results.specs.Retain.{retain-away}
-use Rattle.results.specs.Kept.{put-outside, kept-empty}
 use Rattle.image.specs.Shelf.{Shelf, shelf-frame}
 use Rattle.image.specs.Keeps.{shelf-written}
-use Rattle.sums.specs.Laws.{xor-meets, xor-again}
 use Rattle.sums.specs.Row.{rowSum}
 use Rattle.sums.specs.Bytes.{length-sum}
 use Rattle.sums.specs.Share.{share, length-share}
@@ -36,8 +35,9 @@ use Rattle.meaning.specs.declared.Act.{Act}
 use Rattle.meaning.specs.declared.Act.the-variants.{Read as ToRead, Write, XpWrite, XdRead, Couple, Retain, Rebuild, Regenerate}
 use Rattle.meaning.specs.Acts.{store, stored, spanAt, blocksOf, resultOf, keeping, leaves}
 use Rattle.meaning.specs.Allowed.{Blocks, Filled, Allowed}
-use Rattle.demands.specs.Leaves.{resultIn, written-keeping, length-blocks, length-result}
-use Rattle.demands.specs.Valid.{sound-in}
+use Rattle.meaning.specs.Lengths.{span-after-media, length-blocks}
+use Rattle.demands.specs.Leaves.{resultIn, written-keeping}
+use Rattle.demands.specs.Valid.{retained-sound}
 use Rattle.demands.specs.Beside.{Beside, leaves-beside}
 use Rattle.demands.specs.Retained.{afterwards, results-after}
 use Rattle.parity.specs.Ledger.{Unread, Line, line, noted, Carries, FairAct}
@@ -101,7 +101,7 @@ module _ (m : List ℕ) (g : Geometry) (h : Shelf m g) (sent : List ℕ) (es : L
         → rowSum (put (put m (spanAt g x) sent) (spanAt g y) (blocksOf m g y ⊻ (sent ⊻ blocksOf m g x))) g r ≡ sum
     couple-sum x y bx by ec ne e eb =
         let w = put m (spanAt g x) sent in
-        let hw = shelf-written m g h (spanAt g x) sent (place-after-media g (x .drive) (x .block .0)) in
+        let hw = shelf-written m g h (spanAt g x) sent (span-after-media g x) in
         let u = blocksOf m g x in
         let v = blocksOf m g y in
         let lu : length u ≡ x .count * g .l = length-blocks m g f x bx in
@@ -109,10 +109,8 @@ module _ (m : List ℕ) (g : Geometry) (h : Shelf m g) (sent : List ℕ) (es : L
         let en : x .count * g .l ≡ y .count * g .l = ap (λ (k : ℕ). k * g .l) ec in
         let ls : length (sent ⊻ u) ≡ x .count * g .l = length-xor-le sent u (omega (arith, e)) ∙ e in
         let same : blocksOf w g y ≡ v =
-        part-put-apart m (spanAt g x) sent (spanAt g y) (y .count * g .l)
-        (⊎-elim (λ l. inr (omega (arith, e, place-before g (x .drive) (y .drive) (x .block .0) (y .block .0) (x .count) l (bx .range .range-in))))
-        (λ l. inl (place-before g (y .drive) (x .drive) (y .block .0) (x .block .0) (y .count) l (by .range .range-in)))
-        (apart (x .drive) (y .drive) ne)) in
+        other-drive m g (x .drive) (y .drive) (x .block .0) (y .block .0) (x .count) (y .count) (y .count * g .l) sent (λ q. ne (sym q))
+        (bx .range .range-in) (by .range .range-in) (omega (arith, e)) (omega arith) in
         sum-put w g (shelf-frame w g hw) (y .drive) (y .block .0) (y .count) (by .range) (v ⊻ (sent ⊻ u)) (length-xor-le v (sent ⊻ u) (omega arith) ∙ lv) r lr
         ∙ ap₂ (λ (o ys : List ℕ). o ⊻ share g (y .block .0) ys r) (written-sum x sent bx e)
         (ap (λ (o : List ℕ). o ⊻ (v ⊻ (sent ⊻ u))) same ∙ xor-again v (sent ⊻ u) (omega arith) ∙ xor-commutes sent u)
@@ -128,7 +126,7 @@ module _ (m : List ℕ) (g : Geometry) (h : Shelf m g) (sent : List ℕ) (es : L
         res = resultOf m g x mirror sent
 
         media : g .media ≤ spanAt g x
-        media = place-after-media g (x .drive) (x .block .0)
+        media = span-after-media g x
 
         w : List ℕ
         w = put m (spanAt g x) sent
@@ -137,10 +135,10 @@ module _ (m : List ℕ) (g : Geometry) (h : Shelf m g) (sent : List ℕ) (es : L
         hw = shelf-written m g h (spanAt g x) sent media
 
         fresh : emptySlot w g ≡ At i
-        fresh = kept-empty m w g (f .placed) (put-outside m g (spanAt g x) sent (f .placed) (inr media)) ∙ v .takes
+        fresh = media-empty m g (spanAt g x) sent (f .placed) media ∙ v .takes
 
         sound : Sound g (resultIn 1 x res)
-        sound = sound-in m g 1 x res (omega arith) (omega arith) b l (length-result m g f x b mirror sent e)
+        sound = retained-sound m g h sent x mirror b e l
 
         pick : (c : Bool) → c ≡ true → rowSum (stored m (cond c (store (spanAt g x) sent ∷ []) [] ++ keeping m g i 1 x res)) g r ≡ rowSum w g r
         pick false k = absurd (true≢false (sym k))

@@ -3,24 +3,23 @@
 use Prim.Native.Nat.{ℕ, _+_, _*_, _≤_, _<_}
 use native.Mathlib.Nat.{le-refl}
 use native.Mathlib.Omega.{arith}
-use mathlib.Core.Bool.{true, false}
 use mathlib.Core.Path.{_≡_, refl, sym, ap, ap₂, subst, _∙_}
 use mathlib.Core.Logic.{inl, inr}
-use mathlib.Core.List.{List, [], _∷_}
+use mathlib.Core.List.{List}
 use borrow.Author.Tests.{ltb-false}
 use Rattle.octets.specs.Xor.{_⊻_}
-use Rattle.rules.specs.Rule.{rule, first, AllPass}
+use Rattle.rules.specs.Rule.{first-both, first-cases}
 use Rattle.geometry.specs.declared.Geometry.{Geometry}
 use Rattle.geometry.specs.Header.{place, slotSize}
 use Rattle.geometry.specs.Frame.{Placed}
 use Rattle.geometry.specs.Places.{place-after-media}
+use Rattle.geometry.specs.Outside.{outside-away}
 use Rattle.drives.specs.Table.{addressOf, marked}
 use Rattle.drives.specs.Front.{address-same}
 use Rattle.drives.specs.Marked.{address-marked, part-marked}
 use Rattle.slots.specs.Change.{dropped}
 use Rattle.results.specs.Lists.{keeping}
 use Rattle.results.specs.Results.{results}
-use Rattle.results.specs.Outside.{outside-away}
 use Rattle.results.specs.Kept.{kept-results}
 use Rattle.results.specs.Drop.{ofOther, drop-part, drop-results}
 use Rattle.image.specs.Shelf.{Shelf, shelf-frame}
@@ -35,7 +34,8 @@ use Rattle.meaning.specs.declared.Decision.the-variants.{Stop, Go}
 use Rattle.meaning.specs.declared.Span.{Span}
 use Rattle.meaning.specs.Acts.{spanAt, leaves}
 use Rattle.meaning.specs.Allowed.{Allowed}
-use Rattle.meaning.specs.Checks.{Check, calls}
+use Rattle.meaning.specs.Lengths.{span-after-media}
+use Rattle.meaning.specs.Checks.{calls}
 use Rattle.meaning.specs.Calls.{reset}
 use Rattle.meaning.specs.Step.{imageAfter, untouched, target, resetImage, markCalls, markImage}
 use Rattle.demands.specs.Valid.{leaves-shelf}
@@ -56,13 +56,6 @@ pub record Kept (g : Geometry) (m t : List ℕ) (fs : List Line) : Type 0 where
 abbrev pub SumKept : Geometry → List ℕ → List Line → List ℕ → List Line → Type 0
 SumKept g m es t fs = (r : ℕ) → r < g .b → rowSum t g r ⊻ owed g r fs ≡ rowSum m g r ⊻ owed g r es
 
--- what holds before, and of what is done where every check passes, holds after
-by-checks : (P : List ℕ → List Line → Type 0) (m t : List ℕ) (es fs : List Line) (rs : List Check) → P m es → (AllPass rs → P t fs)
-    → P (first (untouched m) rs t) (first (untold es) rs fs)
-by-checks P m t es fs [] h k = k tt
-by-checks P m t es fs (rule n w true x ∷ rs) h k = h
-by-checks P m t es fs (rule n w false x ∷ rs) h k = by-checks P m t es fs rs h (λ p. k (refl, p))
-
 module _ (m : List ℕ) (g : Geometry) (h : Shelf m g) (es : List Line) where
   p : Placed g
   p = shelf-frame m g h .placed
@@ -73,7 +66,7 @@ module _ (m : List ℕ) (g : Geometry) (h : Shelf m g) (es : List Line) where
   -- ---- a command
 
   before : (x : Span) → 0 + g .slots ≤ spanAt g x
-  before x = omega (arith, place-after-media g (x .drive) (x .block .0), p .slots-is, p .media-is)
+  before x = omega (arith, span-after-media g x, p .slots-is, p .media-is)
 
   -- no act writes before the slots
   front-beside : (act : Act) → Beside g act 0 (g .slots)
@@ -131,14 +124,14 @@ module _ (m : List ℕ) (g : Geometry) (h : Shelf m g) (es : List Line) where
   pub resets-kept : (a : ℕ) → waiting es ≡ results m g → Kept g m (resetImage m a) (notedCall (reset a) m es)
   unfolding resetImage
   resets-kept a e =
-      by-checks (Kept g m) m _ es _ (calls m a) (same-kept e)
+      first-both (untouched m) (untold es) (Kept g m) (calls m a) _ _ (λ n w x. same-kept e)
       (λ ps. subst (λ (k : Geometry). Kept g m (dropped m k (target m a)) (onEach (waitsOn (target m a)) (become Dropped) es)) (sym (h .header))
       (reset-kept (target m a) e))
 
   pub resets-sum : (a : ℕ) → SumKept g m es (resetImage m a) (notedCall (reset a) m es)
   unfolding resetImage
   resets-sum a =
-      by-checks (SumKept g m es) m _ es _ (calls m a) (λ r l. refl)
+      first-both (untouched m) (untold es) (SumKept g m es) (calls m a) _ _ (λ n w x r l. refl)
       (λ ps. subst (λ (k : Geometry). SumKept g m es (dropped m k (target m a)) (onEach (waitsOn (target m a)) (become Dropped) es)) (sym (h .header))
       (reset-sum (target m a)))
 
@@ -161,13 +154,13 @@ module _ (m : List ℕ) (g : Geometry) (h : Shelf m g) (es : List Line) where
   pub marks-kept : (a state : ℕ) → waiting es ≡ results m g → Kept g m (markImage m a state) es
   unfolding markImage
   marks-kept a state e =
-      by-checks (λ t fs. Kept g m t es) m _ es es (markCalls m a state) (same-kept e)
+      first-cases (untouched m) (λ t. Kept g m t es) (markCalls m a state) _ (λ n w x. same-kept e)
       (λ ps. subst (λ (k : Geometry). target m a < k .d → Kept g m (marked m k (target m a) state) es) (sym (h .header))
       (λ l. mark-kept (target m a) state l (ltb-false 1 state (ps .1 .1 .0)) e) (target-in m a (ps .1 .0)))
 
   pub marks-sum : (a state : ℕ) → SumKept g m es (markImage m a state) es
   unfolding markImage
   marks-sum a state =
-      by-checks (λ t fs. SumKept g m es t es) m _ es es (markCalls m a state) (λ r l. refl)
+      first-cases (untouched m) (λ t. SumKept g m es t es) (markCalls m a state) _ (λ n w x r l. refl)
       (λ ps. subst (λ (k : Geometry). target m a < k .d → SumKept g m es (marked m k (target m a) state) es) (sym (h .header))
       (λ l. mark-sum (target m a) state l) (target-in m a (ps .1 .0)))

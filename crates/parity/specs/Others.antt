@@ -7,13 +7,14 @@ use mathlib.Core.Path.{_≡_, refl, sym, ap, ap₂, subst, _∙_}
 use mathlib.Core.Logic.{⊎-elim}
 use mathlib.Core.List.{List, [], _∷_, map, List·Permᴰ, List·Permᴰ·nil, List·Permᴰ·cons, List·Permᴰ·swap, List·Permᴰ·trans}
 use lib.Dec.{eqb}
-use lib.ListN.{length, getD, replicate}
+use lib.ListN.{length, replicate}
 use borrow.Author.Tests.{eq-eqb, ne-eqb, eqb-false}
 use Rattle.octets.specs.Xor.{_⊻_, xor-commutes, xor-swaps, xor-cancels, zeros-xor}
 use Rattle.octets.specs.Operands.{xorAll, xorAll-perm}
 use Rattle.rules.specs.Cases.{either, last-or-below}
 use Rattle.geometry.specs.declared.Geometry.{Geometry}
 use Rattle.sums.specs.Row.{blockIn, summedTo, rowSum}
+use Rattle.callers.specs.Each.{EachIs}
 
 -- the drives below n but drive d
 abbrev pub others : ℕ → ℕ → List ℕ
@@ -35,25 +36,11 @@ module _ {A : Type 0} where
   perm-length (List·Permᴰ·swap d e) = refl
   perm-length (List·Permᴰ·trans p q) = perm-length p ∙ perm-length q
 
-  -- each element has P
-  abbrev pub EachIs : (A → Type 0) → List A → Type 0
-  EachIs P [] = Unit {0}
-  EachIs P (x ∷ xs) = P x × EachIs P xs
-
   pub perm-each : (P : A → Type 0) {xs ys : List A} → List·Permᴰ xs ys → EachIs P ys → EachIs P xs
   perm-each P List·Permᴰ·nil h = tt
   perm-each P (List·Permᴰ·cons e p) h = (subst P (sym e) (h .0), perm-each P p (h .1))
   perm-each P (List·Permᴰ·swap d e) h = (subst P (sym d) (h .1 .0), (subst P (sym e) (h .0), h .1 .1))
   perm-each P (List·Permᴰ·trans p q) h = perm-each P p (perm-each P q h)
-
-  pub each-at : (P : A → Type 0) (xs : List A) (x : A) → EachIs P xs → (i : ℕ) → i < length xs → P (getD xs i x)
-  each-at P [] x h i l = absurd (not-suc-le-zero l)
-  each-at P (y ∷ ys) x h zero l = h .0
-  each-at P (y ∷ ys) x h (suc i) l = each-at P ys x (h .1) i (omega arith)
-
-  pub map-each : {B : Type 0} (f k : A → B) (P : A → Type 0) → ((x : A) → P x → f x ≡ k x) → (xs : List A) → EachIs P xs → map f xs ≡ map k xs
-  map-each f k P e [] h = refl
-  map-each {B} f k P e (x ∷ xs) h = ap₂ (λ (y : B) (r : List B). y ∷ r) (e x (h .0)) (map-each f k P e xs (h .1))
 
 -- ---- the others
 

@@ -7,7 +7,7 @@ use lib.Dec.{eqb, lit≤}
 use lib.ListN.{getD}
 use Rattle.octets.specs.Part.{part}
 use Rattle.octets.specs.Put.{put}
-use Rattle.octets.specs.Octets.{Octets}
+use Rattle.octets.specs.Octets.{Octets, small-octets}
 use Rattle.octets.specs.Xor.{_⊻_}
 use Rattle.octets.specs.Operands.{xorAll}
 use Rattle.octets.specs.Number.{num, toBe}
@@ -32,6 +32,7 @@ use Rattle.sums.specs.Share.{share}
 use Rattle.sense.specs.declared.Answer.{Answer}
 use Rattle.sense.specs.declared.Answer.the-variants.{Good}
 use Rattle.command.specs.Command.{opOf, sixteenOf, tenOf, listedOf, ownOf, resolvedOf, listBytes, sourceOf}
+use Rattle.command.specs.Lossless.{cdbOf}
 use Rattle.meaning.specs.declared.Span.{Span}
 use Rattle.meaning.specs.declared.Act.{Act}
 use Rattle.meaning.specs.declared.Act.the-variants.{Read as ToRead, Write, XpWrite, XdRead, Couple, Retain, Rebuild, Regenerate}
@@ -45,7 +46,7 @@ use Rattle.meaning.specs.Calls.{Call, command}
 use Rattle.meaning.specs.Cases.{shelfOf, vacant, zeros, two, fresh, result, xdwrite, ten, room}
 use Rattle.parity.specs.Owed.{owed}
 use Rattle.parity.specs.AnyStep.{AnyStep, done, callBy, Start, SumsDiffer, ZeroSums, AllPresent, Whole, Restores}
-use Rattle.parity.specs.Example.{benchShape, bench-start, small-octets, bench-zero, carried, junk, both-rows}
+use Rattle.parity.specs.Example.{benchShape, bench-start, bench-zero, carried, junk, both-rows}
 
 -- ---- two images to try a step on
 
@@ -164,7 +165,7 @@ abbrev pub missing : Acting
 missing s g sent act = onRebuild (λ x n int. put s (spanAt g x) (gathered s g sent (x .count) (n - 1) int)) (leaves s g sent act) act
 
 pub missing-not : Restores (callBy (actingBy missing)) (actingBy missing) → ⊥
-unfolding decideOf stepOutcome validImage framedOk rangesOk offsetsOk tableOk statesOk newAddress addressesOk slotsOk eachOk ranksOk slotOk slotOf slotAt place every allBelow countBelow leastBelow driveOf part put num toBe _⊻_ xorAll sourcesFrom gathered opOf listedOf ownOf resolvedOf listBytes sourceOf ownEntry driveBad entryBad firstBad
+unfolding cdbOf decideOf stepOutcome validImage framedOk rangesOk offsetsOk tableOk statesOk newAddress addressesOk slotsOk eachOk ranksOk slotOk slotOf slotAt place every allBelow countBelow leastBelow driveOf part put num toBe _⊻_ xorAll sourcesFrom gathered opOf listedOf ownOf resolvedOf listBytes sourceOf ownEntry driveBad entryBad firstBad
 missing-not h =
     let x = h bench benchShape [] 1 0 2 junk (0 ∷ 2 ∷ []) 2 0xFFFFFFFF (on-bench (callBy (actingBy missing))) both-rows room .back in
     let z : _≡_ {A = ℕ} 10 1 = ap (λ (l : List ℕ). getD l 76 0) x in
@@ -176,7 +177,7 @@ counting s g sent act =
     onRebuild (λ x n int. put s (spanAt g x) (blocksOf s g x ⊻ gathered s g sent (x .count) n int)) (leaves s g sent act) act
 
 pub counting-not : Restores (callBy (actingBy counting)) (actingBy counting) → ⊥
-unfolding decideOf stepOutcome validImage framedOk rangesOk offsetsOk tableOk statesOk newAddress addressesOk slotsOk eachOk ranksOk slotOk slotOf slotAt place every allBelow countBelow leastBelow driveOf part put num toBe _⊻_ xorAll sourcesFrom gathered opOf listedOf ownOf resolvedOf listBytes sourceOf ownEntry driveBad entryBad firstBad
+unfolding cdbOf decideOf stepOutcome validImage framedOk rangesOk offsetsOk tableOk statesOk newAddress addressesOk slotsOk eachOk ranksOk slotOk slotOf slotAt place every allBelow countBelow leastBelow driveOf part put num toBe _⊻_ xorAll sourcesFrom gathered opOf listedOf ownOf resolvedOf listBytes sourceOf ownEntry driveBad entryBad firstBad
 counting-not h =
     let x = h bench benchShape [] 1 0 2 junk (0 ∷ 2 ∷ []) 2 0xFFFFFFFF (on-bench (callBy (actingBy counting))) both-rows room .back in
     let z : _≡_ {A = ℕ} 254 1 = ap (λ (l : List ℕ). getD l 76 0) x in

@@ -1,0 +1,16 @@
+pub mod Bytes
+pub mod Each
+pub mod Lists
+pub mod Does
+pub mod Goes
+pub mod Reads
+pub mod Writes
+pub mod Xdwrites
+pub mod Idle
+pub mod Sources
+pub mod Listed
+pub mod Rebuilds
+pub mod Operands
+pub mod Results
+pub mod Example
+pub mod Next

@@ -1,0 +1,84 @@
+-- What REBUILD and REGENERATE gather by a list that was written from its sources, and both with such a list. Assumes nothing.
+use Prim.Native.Nat.{ℕ, suc, _+_, _*_, _≤_, _<_}
+use native.Mathlib.Nat.{add-zero}
+use native.Mathlib.Omega.{arith}
+use mathlib.Core.Bool.{Bool, true, false, cond}
+use mathlib.Core.Path.{_≡_, refl, sym, ap, ap₂, subst, _∙_}
+use mathlib.Core.Logic.{_⊎_}
+use mathlib.Core.List.{List, [], _∷_, _++_, map}
+use lib.Dec.{eqb}
+use lib.ListN.{length, getD}
+use Rattle.octets.specs.Part.{part}
+use Rattle.octets.specs.Put.{put}
+use Rattle.octets.specs.Xor.{_⊻_}
+use Rattle.octets.specs.Operands.{xorAll}
+use Rattle.rules.specs.Least.{index}
+use Rattle.geometry.specs.declared.Geometry.{Geometry}
+use Rattle.geometry.specs.Header.{place}
+use Rattle.drives.specs.Table.{driveOf}
+use Rattle.image.specs.Shelf.{shelf-frame}
+use Rattle.command.specs.declared.Source.{Source}
+use Rattle.command.specs.Command.{sourceOf}
+use Rattle.meaning.specs.Acts.{stored, keeping, sourcesFrom, gathered}
+use Rattle.meaning.specs.Allowed.{Blocks, Limited, Free}
+use Rattle.callers.specs.Bytes.{rebuildCdb, regenerateCdb}
+use Rattle.callers.specs.Each.{EachIs}
+use Rattle.callers.specs.Lists.{source, listOf, list-headed, list-data}
+use Rattle.callers.specs.Does.{blocks, Does, Target}
+use Rattle.callers.specs.Sources.{Names, read-as, list-sourced}
+use Rattle.callers.specs.Listed.{ListByte, HowLong}
+use Rattle.callers.specs.Rebuilds.{rebuild-does, regenerate-does}
+
+-- the n blocks that a source names
+abbrev pub named : List ℕ → Geometry → ℕ → Source → List ℕ
+named m g n e = part m (place g (index (driveOf m g (e .address .0))) (e .block .0)) (n * g .l)
+
+-- the operands: the sources' blocks, and with Int Data the data d
+abbrev pub operands : List ℕ → Geometry → ℕ → List Source → ℕ → List ℕ → List (List ℕ)
+operands m g n es int d = map (named m g n) es ++ cond (eqb int 0) [] (d ∷ [])
+
+from-sources : (m : List ℕ) (g : Geometry) (n : ℕ) (s : List ℕ) (es : List Source) (i : ℕ)
+    → ((j : ℕ) → j < length es → sourceOf s (i + j) ≡ getD es j (source 0 0)) → sourcesFrom m g s n i (length es) ≡ map (named m g n) es
+unfolding sourcesFrom
+from-sources m g n s [] i h = refl
+from-sources m g n s (e ∷ es) i h =
+    ap₂ (λ (x : List ℕ) (xs : List (List ℕ)). x ∷ xs)
+    (ap (named m g n) (ap (sourceOf s) (sym (add-zero i)) ∙ h 0 (omega arith)))
+    (from-sources m g n s es (i + 1) (λ j l. let e : i + 1 + j ≡ i + suc j = omega arith in rw e (h (suc j) (omega arith))))
+
+module _ (m : List ℕ) (g : Geometry) (a t : ℕ) (h : Target m g a t) (b n : ℕ) (es : List Source) (int : ℕ) (d : List ℕ)
+    (each : EachIs (Names m g (blocks t b n)) es) (long : length d ≡ cond (eqb int 0) 0 (n * g .l)) where
+  data-is : (u : Bool) → length d ≡ cond u 0 (n * g .l)
+      → cond u [] (part (listOf b es d) (8 + 8 * length es) (n * g .l) ∷ []) ≡ cond u [] (d ∷ [])
+  data-is true e = refl
+  data-is false e = ap (λ (x : List ℕ). x ∷ []) (ap (part (listOf b es d) (8 + 8 * length es)) (sym e) ∙ list-data b es d)
+
+  pub gathered-is : gathered m g (listOf b es d) n (length es) int ≡ xorAll (operands m g n es int d)
+  unfolding gathered
+  gathered-is =
+      ap₂ (λ (xs ys : List (List ℕ)). xorAll (xs ++ ys))
+      (from-sources m g n (listOf b es d) es 0 (λ j l. let e : 0 + j ≡ j = omega arith in rw e (read-as m g (h .shelf) (blocks t b n) b es d each j l)))
+      (data-is (eqb int 0) long)
+
+  -- one source at least, and so many that a byte counts them
+  module _ (one : 1 ≤ length es) (few : length es < 256) (w : Blocks m g (blocks t b n)) (r : List ℕ) (flags : ℕ) (z : ListByte flags int) where
+    small : b < 4294967296
+    small = omega (arith, w .range .range-in, shelf-frame m g (h .shelf) .placed .ranges .b-high)
+
+    -- REBUILD: the XOR of the operands is written to the target
+    pub rebuild-lists : (count : ℕ) → HowLong (g .b) b n count → (int ≡ 0) ⊎ (count ≡ n)
+        → Does m a (rebuildCdb flags count (length es)) (listOf b es d) r 0 (put m (place g t b) (xorAll (operands m g n es int d))) r
+    rebuild-lists count how with =
+        subst (λ (x : List ℕ). Does m a (rebuildCdb flags count (length es)) (listOf b es d) r 0 (put m (place g t b) x) r) gathered-is
+        (rebuild-does m g a t h b n (length es) flags int (listOf b es d) r z (list-headed b es d small) few w
+        (list-sourced m g (h .shelf) (blocks t b n) b es d each int one long) count how with)
+
+    -- REGENERATE: the XOR of the target's own blocks and the operands is retained in slot i
+    pub regenerate-lists : Limited g (blocks t b n) → (i : ℕ) → Free m g i
+        → Does m a (regenerateCdb flags n (length es)) (listOf b es d) r 0
+        (stored m (keeping m g i 2 (blocks t b n) (part m (place g t b) (n * g .l) ⊻ xorAll (operands m g n es int d)))) r
+    regenerate-lists most i v =
+        subst (λ (x : List ℕ). Does m a (regenerateCdb flags n (length es)) (listOf b es d) r 0
+        (stored m (keeping m g i 2 (blocks t b n) (part m (place g t b) (n * g .l) ⊻ x))) r) gathered-is
+        (regenerate-does m g a t h b n (length es) flags int (listOf b es d) r z (list-headed b es d small) few w
+        (list-sourced m g (h .shelf) (blocks t b n) b es d each int one long) most i v)

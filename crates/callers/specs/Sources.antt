@@ -1,0 +1,107 @@
+-- Source entries that name blocks of other present drives pass their checks. Assumes nothing.
+use Prim.Native.Nat.{ℕ, zero, suc, _+_, _*_, _≤_, _<_}
+use native.Mathlib.Omega.{arith}
+use mathlib.Core.Bool.{false, cond}
+use mathlib.Core.Path.{_≡_, refl, ap, ap₂, _∙_}
+use mathlib.Core.List.{List}
+use lib.Dec.{eqb}
+use lib.ListN.{length, getD}
+use borrow.Author.Tests.{le-ltb, ne-eqb}
+use Rattle.octets.specs.Octets.{Octets}
+use Rattle.rules.specs.declared.Found.the-variants.{At, Nothing}
+use Rattle.rules.specs.Least.{least-none}
+use Rattle.geometry.specs.declared.Geometry.{Geometry}
+use Rattle.geometry.specs.Places.{Range}
+use Rattle.drives.specs.Table.{addressOf, driveOf, failed}
+use Rattle.drives.specs.Facts.{table-addresses, address-lt}
+use Rattle.drives.specs.Lookup.{drive-found}
+use Rattle.image.specs.Shelf.{Shelf, shelf-frame}
+use Rattle.command.specs.declared.Source.{Source}
+use Rattle.command.specs.Command.{sourceOf}
+use Rattle.meaning.specs.declared.Span.{Span}
+use Rattle.meaning.specs.declared.Fault.the-variants.{Clear}
+use Rattle.meaning.specs.Sources.{isAt, ownEntry, driveBad, entryBad, orNext, firstBad}
+use Rattle.meaning.specs.Allowed.{Entry, Sourced}
+use Rattle.callers.specs.Each.{EachIs, each-at}
+use Rattle.callers.specs.Lists.{source, listOf, list-long, list-source}
+
+-- ---- entries that pass
+
+module _ (m : List ℕ) (g : Geometry) (x : Span) (s : List ℕ) (n : ℕ) (each : (i : ℕ) → i < n → Entry m g x s i) where
+  -- none is the target
+  pub no-own : ownEntry m g s n (x .drive) ≡ Nothing
+  unfolding ownEntry
+  no-own = least-none _ n (λ i l. ap (isAt (x .drive)) (each i l .found) ∙ ne-eqb _ _ (each i l .other))
+
+  entry-clear : (i : ℕ) → i < n → entryBad m g s (x .count) i ≡ Clear
+  unfolding entryBad driveBad
+  entry-clear i l =
+      let e = each i l in
+      ap (driveBad m g (x .count) i (sourceOf s i .block .0)) (e .found)
+      ∙ rw (e .present, le-ltb (g .b) (sourceOf s i .block .0 + x .count) (e .range .range-in))
+
+  clear-from : (i left : ℕ) → i + left ≤ n → firstBad m g s (x .count) i left ≡ Clear
+  unfolding firstBad
+  clear-from i zero l = refl
+  clear-from i (suc left) l = ap₂ orNext (entry-clear i (omega arith)) (clear-from (i + 1) left (omega arith))
+
+  -- and none fails
+  pub all-clear : firstBad m g s (x .count) 0 n ≡ Clear
+  all-clear = clear-from 0 n (omega arith)
+
+-- ---- sources as a caller has them
+
+-- the source e names blocks of another present drive
+pub record Names (m : List ℕ) (g : Geometry) (x : Span) (e : Source) : Type 0 where
+  pub drive : ℕ
+  pub found : driveOf m g (e .address .0) ≡ At drive
+  pub small : e .address .0 < 4294967296
+  pub range : Range g drive (e .block .0) (x .count)
+  pub present : failed m g drive ≡ false
+  pub other : drive ≡ x .drive → ⊥
+
+-- drive e's blocks from block b on, as a source
+abbrev pub sourceAt : List ℕ → Geometry → ℕ → ℕ → Source
+sourceAt m g b e = source (addressOf m g e) b
+
+-- it names them where the image is made of bytes
+pub names-drive : (m : List ℕ) (g : Geometry) → Shelf m g → Octets m → (x : Span) (b e : ℕ) → Range g e b (x .count) → failed m g e ≡ false
+    → (e ≡ x .drive → ⊥)
+    → Names m g x (sourceAt m g b e)
+names-drive m g h o x b e r up other =
+    record {
+      drive = e;
+      found = drive-found m g (table-addresses m g (h .table-ok)) e (r .drive-in);
+      small = omega (arith, address-lt m g (shelf-frame m g h) o e (r .drive-in));
+      range = r;
+      present = up;
+      other = other;
+    }
+
+module _ (m : List ℕ) (g : Geometry) (h : Shelf m g) (x : Span) (b : ℕ) (es : List Source) (d : List ℕ)
+    (each : EachIs (Names m g x) es) where
+  names : (i : ℕ) → i < length es → Names m g x (getD es i (source 0 0))
+  names = each-at (Names m g x) es (source 0 0) each
+
+  -- what the step reads is what was written
+  pub read-as : (i : ℕ) → i < length es → sourceOf (listOf b es d) i ≡ getD es i (source 0 0)
+  read-as i l =
+      let e = names i l in
+      list-source b es d i l
+      (record { address-small = e .small; block-small = omega (arith, e .range .range-in, shelf-frame m g h .placed .ranges .b-high) })
+
+  entry : (i : ℕ) → i < length es → Entry m g x (listOf b es d) i
+  entry i l =
+      let e = names i l in
+      let q = read-as i l in
+      record {
+        drive = e .drive;
+        found = ap (λ (z : Source). driveOf m g (z .address .0)) q ∙ e .found;
+        range = rw q (e .range);
+        present = e .present;
+        other = e .other;
+      }
+
+  -- the sources of a list that was written so
+  pub list-sourced : (int : ℕ) → 1 ≤ length es → length d ≡ cond (eqb int 0) 0 (x .count * g .l) → Sourced m g x (length es) int (listOf b es d)
+  list-sourced int one long = record { some-source = one; exact = omega (arith, list-long b es d); each = entry }
