@@ -1,8 +1,7 @@
 -- What a call leaves, by name: the answer, the image, the receive room. Assumes nothing.
-use mathlib.Core.Path.{_≡_, refl, sym, ap, subst, _∙_}
-use mathlib.Core.Bool.{Bool, true, false, not}
-use mathlib.Core.List.{List, [], _∷_}
-use Prim.Native.Nat.{ℕ, _≤_, _<_}
+use mathlib.Core.Path.{_≡_, sym, ap, subst, _∙_}
+use mathlib.Core.List.{List}
+use Prim.Native.Nat.{ℕ}
 use lib.ListN.{length}
 use Rattle.octets.specs.Put.{put}
 use Rattle.octets.specs.Octets.{Octets}
@@ -20,9 +19,9 @@ use Rattle.meaning.specs.declared.Decision.the-variants.{Stop, Go}
 use Rattle.meaning.specs.Acts.{leaves, hands}
 use Rattle.meaning.specs.Allowed.{Allowed, Few}
 use Rattle.meaning.specs.Checks.{decideOf}
+use Rattle.meaning.specs.Step.{decided, imageAfter, roomAfter, outcomeAfter, stepImage, stepRoom, stepOutcome, resetAnswer, resetImage, markAnswer, markImage}
 use Rattle.licence.specs.Granted.{granted}
 use Rattle.licence.specs.Few.{few}
-use Rattle.meaning.specs.Step.{decided, imageAfter, roomAfter, outcomeAfter, stepImage, stepRoom, stepOutcome, resetAnswer, resetImage, markAnswer, markImage}
 
 -- image m, target a, CDB c, data-out bytes s and receive room r become outcome o, image m′ and room r′
 pub record Stepped (m : List ℕ) (a : ℕ) (c s r : List ℕ) (o : Outcome) (m′ r′ : List ℕ) : Type 0 where

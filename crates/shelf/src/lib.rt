@@ -1,9 +1,9 @@
 // The step, the reset and the marking of a drive. Every image, command and data gets an answer; the
 // caller has checked nothing.
+use decide::Reached;
 use geometry::Address;
 use geometry::Geometry;
 use meaning::Decision;
-use rules::Found;
 use sense::Answer;
 use sense::Outcome;
 ghost use mathlib.Core.Path.{_≡_};
@@ -29,16 +29,12 @@ pub fn step(image: &mut [u8], target: u32, cdb: &[u8], sent: &[u8], room: &mut [
 pub fn reset(image: &mut [u8], target: u32) -> Answer
     ensures { λ r. ⌜ Reset (now (image .entry)) target r (now (image .exit)) ⌝ }
 {
-    if !image::valid(image) {
-        return Answer::BadImage;
-    }
-    let g = Geometry::read(image);
-    match drives::find_drive(image, g, Address(target as usize)) {
-        Found::At(i) => {
+    match decide::called(image, Address(target as usize)) {
+        Reached::Refused(answer) => answer,
+        Reached::Drive(g, i) => {
             slots::drop_drive(image, g, i);
             Answer::Good
         }
-        Found::Nothing => Answer::NoTarget,
     }
 }
 
@@ -46,18 +42,14 @@ pub fn reset(image: &mut [u8], target: u32) -> Answer
 pub fn mark(image: &mut [u8], target: u32, state: u32) -> Answer
     ensures { λ r. ⌜ Marked (now (image .entry)) target state r (now (image .exit)) ⌝ }
 {
-    if !image::valid(image) {
-        return Answer::BadImage;
-    }
-    let g = Geometry::read(image);
-    match drives::find_drive(image, g, Address(target as usize)) {
-        Found::At(i) => {
+    match decide::called(image, Address(target as usize)) {
+        Reached::Refused(answer) => answer,
+        Reached::Drive(g, i) => {
             if 1 < state {
                 return Answer::BadState;
             }
             drives::mark(image, g, i, state as usize);
             Answer::Good
         }
-        Found::Nothing => Answer::NoTarget,
     }
 }

@@ -1,6 +1,6 @@
 -- The C call of a step (01, "What the shelf does"): "It lends a sense room too, whose first 37 bytes take the sense, the rest staying; a
 -- shorter one is call 5 before all other checks, nothing moved." Assumes nothing.
-use mathlib.Core.Path.{_≡_, refl, sym, ap, _∙_}
+use mathlib.Core.Path.{_≡_, ap, _∙_}
 use mathlib.Core.Bool.{Bool, true, false, cond}
 use mathlib.Core.List.{List}
 use Prim.Native.Nat.{ℕ, _≤_, _<_}
