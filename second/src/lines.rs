@@ -7,10 +7,10 @@
 //! rows IMAGE                              ->  TEXT
 //! ```
 //!
-//! Bytes are hexadecimal and `-` is no bytes. TARGET and STATE are eight
-//! hexadecimal digits, NUMBER and COUNT are decimal, TEXT is the bytes of the
-//! listing. In an answer `=` is "unchanged", and COUNT is `-` where it was not
-//! written.
+//! One space stands between two words. Bytes are two lower-case hexadecimal
+//! digits each, and `-` is no bytes. TARGET and STATE are eight hexadecimal
+//! digits, NUMBER and COUNT are decimal, TEXT is the bytes of the listing. In an
+//! answer `=` is "unchanged", and COUNT is `-` where it was not written.
 
 use crate::calls::{mark, reset};
 use crate::case::{Call, Case, StepCall, StepOutcome};
@@ -29,7 +29,7 @@ pub fn answer_line(line: &str) -> String {
 
 /// The case that a line holds.
 pub fn parse_line(line: &str) -> Option<Case> {
-    let words: Vec<&str> = line.split_ascii_whitespace().collect();
+    let words: Vec<&str> = line.split(' ').collect();
     let (image, call) = match words.as_slice() {
         ["step", image, target, cdb, data, room, sense] => {
             let step = StepCall {
@@ -123,7 +123,7 @@ fn bytes_of(text: &str) -> Option<Vec<u8>> {
     }
     let digits: Option<Vec<u8>> = text.bytes().map(digit).collect();
     let digits = digits?;
-    if !digits.len().is_multiple_of(2) {
+    if digits.is_empty() || !digits.len().is_multiple_of(2) {
         return None;
     }
     let pairs = digits.chunks_exact(2);
@@ -136,5 +136,9 @@ fn number_of(text: &str) -> Option<u32> {
 }
 
 fn digit(letter: u8) -> Option<u8> {
-    char::from(letter).to_digit(16).map(|digit| digit as u8)
+    match letter {
+        b'0'..=b'9' => Some(letter - b'0'),
+        b'a'..=b'f' => Some(letter - b'a' + 10),
+        _ => None,
+    }
 }

@@ -80,6 +80,14 @@ fn a_malformed_line_is_a_bad_line() {
         "rows",
         "rows - -",
         "RESET - 00000001",
+        "reset  00000001",
+        "reset -  00000001",
+        " reset - 00000001",
+        "reset - 00000001 ",
+        "reset\t-\t00000001",
+        "reset - 00000001\r",
+        "reset - 0000000A",
+        "reset AB 00000001",
     ];
     for line in bad {
         assert_eq!(answer_line(line), BAD_LINE, "{line}");

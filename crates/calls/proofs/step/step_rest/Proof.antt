@@ -1,0 +1,90 @@
+-- `calls::step::step_rest` meets its contract. Assumes nothing.
+use mathlib.Core.Path.{sym}
+use native.Mathlib.Omega.{arith}
+use borrow.Author.Needs.{needs}
+use Rattle.words.specs.Words.{cut-more, cut-last, word-long, rest-long}
+use Rattle.calls.specs.Answer.{stepLine}
+use Rattle.calls.specs.Lines.{step-long}
+use Rattle.calls.proofs.step.step_rest.Statement.{statement}
+use Rattle.calls.proofs.step.step_rest.Tie as tie
+
+returns : tie.Need-returns
+unfolding stepLine
+returns c =
+    let args = c .before .before .before .before .before .before .before .before .before .before .before .args in
+    let cut = c .before .before .before .before .before .cut in
+    let bad = c .before .before .bad in
+    rw (cut-last (args .line .now) _ (cut .ensures) (omega arith)) (bad .ensures)
+
+returns-2 : tie.Need-returns-2
+unfolding stepLine
+returns-2 c =
+    let args = c .before .before .before .before .before .before .before .before .before .before .before .before .before .before .args in
+    let cut = c .before .before .before .before .before .before .before .before .cut in
+    let cut2 = c .before .before .before .before .before .cut2 in
+    let bad2 = c .before .before .bad2 in
+    rw (cut-more (args .line .now) _ (cut .ensures) (omega arith), cut-last _ _ (cut2 .ensures) (omega arith)) (bad2 .ensures)
+
+returns-3 : tie.Need-returns-3
+unfolding stepLine
+returns-3 c =
+    let args = c .before .before .before .before .before .before .before .before .before .before .before .before .before .before .before .before .before .args in
+    let cut = c .before .before .before .before .before .before .before .before .before .before .before .cut in
+    let cut2 = c .before .before .before .before .before .before .before .before .cut2 in
+    let cut3 = c .before .before .before .before .before .cut3 in
+    let if3 = c .before .before .before .before .if3 in
+    let bad3 = c .before .before .bad3 in
+    rw (cut-more (args .line .now) _ (cut .ensures) (omega arith), cut-more _ _ (cut2 .ensures) (omega arith), cut-more _ _ (cut3 .ensures) (if3 .taken), step-long) (bad3 .ensures)
+
+slice-aggregate-step-words : tie.Need-slice-aggregate-step-words
+slice-aggregate-step-words c = sym (word-long _ _ (c .before .before .before .before .before .before .before .before .before .cut .ensures))
+
+slice-aggregate-step-words-2 : tie.Need-slice-aggregate-step-words-2
+slice-aggregate-step-words-2 c = sym (word-long _ _ (c .before .before .before .before .before .before .before .cut2 .ensures))
+
+step-words-requires : tie.Need-step-words-requires
+step-words-requires c κs =
+    let cut = c .before .before .before .before .before .before .before .before .before .before .cut in
+    let cut2 = c .before .before .before .before .before .before .before .cut2 in
+    (omega (arith, word-long _ _ (cut .ensures), word-long _ _ (cut2 .ensures), rest-long _ _ (cut .ensures) (omega arith), rest-long _ _ (cut2 .ensures) (omega arith)), search needs)
+
+returns-4 : tie.Need-returns-4
+unfolding stepLine
+returns-4 c =
+    let args = c .before .before .before .before .before .before .before .before .before .before .before .before .before .before .before .before .before .before .before .args in
+    let cut = c .before .before .before .before .before .before .before .before .before .before .before .before .before .cut in
+    let cut2 = c .before .before .before .before .before .before .before .before .before .before .cut2 in
+    let cut3 = c .before .before .before .before .before .before .before .cut3 in
+    let if3 = c .before .before .before .before .before .before .if3 in
+    let step-words = c .before .before .step-words in
+    rw (cut-more (args .line .now) _ (cut .ensures) (omega arith), cut-more _ _ (cut2 .ensures) (omega arith), cut-last _ _ (cut3 .ensures) (if3 .left)) (step-words .ensures)
+
+pub step-rest-spec : {M : Type 1} → statement M
+step-rest-spec =
+    tie.close
+    (tie.spec
+    (λ c κs. search needs)
+    (λ c κs. search needs)
+    (λ c. search needs)
+    returns
+    (λ c. omega arith)
+    (λ c. omega arith)
+    (λ c. omega arith)
+    (λ c. omega arith)
+    (λ c κs. search needs)
+    (λ c κs. search needs)
+    (λ c. search needs)
+    returns-2
+    (λ c. omega arith)
+    (λ c. omega arith)
+    (λ c. omega arith)
+    (λ c. omega arith)
+    (λ c κs. search needs)
+    (λ c κs. search needs)
+    (λ c. search needs)
+    returns-3
+    slice-aggregate-step-words
+    slice-aggregate-step-words-2
+    step-words-requires
+    (λ c. search needs)
+    returns-4)

@@ -1,0 +1,104 @@
+-- The answer to a line that holds a call: what the C interface answers and leaves, as words. Assumes nothing.
+use Prim.Native.Nat.{ℕ}
+use mathlib.Core.Bool.{Bool, cond, _&&_}
+use mathlib.Core.List.{List, [], _∷_, _++_}
+use lib.Dec.{eqb, ltb}
+use lib.ListN.{length, getD}
+use Rattle.octets.specs.Put.{put}
+use Rattle.sense.specs.declared.Answer.the-variants.{ShortRoom}
+use Rattle.sense.specs.Answers.{numberOf}
+use Rattle.meaning.specs.Step.{stepImage, stepRoom, stepOutcome, resetAnswer, resetImage, markAnswer, markImage}
+use Rattle.shelf_c.specs.Interface.{short}
+use Rattle.text.specs.Ascii.{ascii}
+use Rattle.text.specs.Decimal.{decimal}
+use Rattle.words.specs.Words.{words, sameWord}
+use Rattle.words.specs.Digits.{isBytes, isNumber, numberIn, unhex, wordOf}
+
+-- a space, and then the bytes, or `=` where they are the line's word w
+unfoldable pub shown : List ℕ → List ℕ → List ℕ
+shown w bs = ascii " " ++ cond (sameWord w (wordOf bs)) (ascii "=") (wordOf bs)
+
+-- the count k, or `-` where the sense room is n bytes and too short for the call to write one
+unfoldable pub countText : ℕ → ℕ → List ℕ
+countText n k = cond (ltb n 37) (ascii "-") (decimal k)
+
+-- of a step, by image, target, CDB, data, room and sense room: what it answers and leaves
+module _ (m : List ℕ) (a : ℕ) (c s r n : List ℕ) where
+  abbrev pub stepNumber : ℕ
+  stepNumber = cond (short n) (numberOf ShortRoom) (numberOf (stepOutcome m a c s r .answer))
+
+  abbrev pub imageLeft : List ℕ
+  imageLeft = cond (short n) m (stepImage m a c s r)
+
+  abbrev pub roomLeft : List ℕ
+  roomLeft = cond (short n) r (stepRoom m a c s r)
+
+  abbrev pub senseLeft : List ℕ
+  senseLeft = cond (short n) n (put n 0 (stepOutcome m a c s r .sense .bytes))
+
+-- `NUMBER COUNT IMAGE ROOM SENSE`, of number x and count k, where the words m, r and n became the bytes m′, r′ and n′
+unfoldable pub leftText : ℕ → ℕ → List ℕ → List ℕ → List ℕ → List ℕ → List ℕ → List ℕ → List ℕ
+leftText x k m m′ r r′ n n′ = decimal x ++ ascii " " ++ countText (length n′) k ++ shown m m′ ++ shown r r′ ++ shown n n′
+
+-- of a step with target a, CDB c and data s, whose image, room and sense room are the words m, r and n
+unfoldable pub stepText : List ℕ → ℕ → List ℕ → List ℕ → List ℕ → List ℕ → List ℕ
+stepText m a c s r n =
+    leftText (stepNumber (unhex m) a c s (unhex r) (unhex n))
+    (stepOutcome (unhex m) a c s (unhex r) .count)
+    m
+    (imageLeft (unhex m) a c s (unhex r) (unhex n))
+    r
+    (roomLeft (unhex m) a c s (unhex r) (unhex n))
+    n
+    (senseLeft (unhex m) a c s (unhex r) (unhex n))
+
+-- `NUMBER IMAGE`
+unfoldable pub resetText : List ℕ → ℕ → List ℕ
+resetText m a = decimal (numberOf (resetAnswer (unhex m) a)) ++ shown m (resetImage (unhex m) a)
+
+unfoldable pub markText : List ℕ → ℕ → ℕ → List ℕ
+markText m a x = decimal (numberOf (markAnswer (unhex m) a x)) ++ shown m (markImage (unhex m) a x)
+
+abbrev pub badLine : List ℕ
+badLine = ascii "bad line"
+
+-- every word of a step is what it should be
+unfoldable pub stepOk : List ℕ → List ℕ → List ℕ → List ℕ → List ℕ → List ℕ → Bool
+stepOk m a c s r n = isBytes m && (isNumber a && (isBytes c && (isBytes s && (isBytes r && isBytes n))))
+
+-- the words of a step after `step`: IMAGE TARGET CDB DATA ROOM SENSE
+unfoldable pub ofStep : List ℕ → List ℕ → List ℕ → List ℕ → List ℕ → List ℕ → List ℕ
+ofStep m a c s r n = cond (stepOk m a c s r n) (stepText m (numberIn a) (unhex c) (unhex s) r n) badLine
+
+-- after `reset`: IMAGE TARGET
+unfoldable pub ofReset : List ℕ → List ℕ → List ℕ
+ofReset m a = cond (isBytes m && isNumber a) (resetText m (numberIn a)) badLine
+
+-- after `mark`: IMAGE TARGET STATE
+unfoldable pub ofMark : List ℕ → List ℕ → List ℕ → List ℕ
+ofMark m a x = cond (isBytes m && (isNumber a && isNumber x)) (markText m (numberIn a) (numberIn x)) badLine
+
+abbrev pub word : List (List ℕ) → ℕ → List ℕ
+word ws i = getD ws i []
+
+unfoldable pub stepLine : List (List ℕ) → List ℕ
+stepLine ws = cond (eqb (length ws) 6) (ofStep (word ws 0) (word ws 1) (word ws 2) (word ws 3) (word ws 4) (word ws 5)) badLine
+
+unfoldable pub resetLine : List (List ℕ) → List ℕ
+resetLine ws = cond (eqb (length ws) 2) (ofReset (word ws 0) (word ws 1)) badLine
+
+unfoldable pub markLine : List (List ℕ) → List ℕ
+markLine ws = cond (eqb (length ws) 3) (ofMark (word ws 0) (word ws 1) (word ws 2)) badLine
+
+-- by the first word
+unfoldable pub callLine : List (List ℕ) → List ℕ
+callLine [] = badLine
+callLine (op ∷ ws) =
+    cond (sameWord op (ascii "step")) (stepLine ws)
+    (cond (sameWord op (ascii "reset")) (resetLine ws)
+    (cond (sameWord op (ascii "mark")) (markLine ws)
+    badLine))
+
+-- the answer to a line, which has at most 65,536 bytes
+unfoldable pub answerOf : List ℕ → List ℕ
+answerOf line = cond (ltb 65536 (length line)) (ascii "long line") (callLine (words line))

@@ -1,0 +1,4 @@
+pub mod Answer
+pub mod Wrote
+pub mod Lines
+pub mod Examples

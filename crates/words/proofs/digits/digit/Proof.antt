@@ -1,0 +1,22 @@
+-- `words::digits::digit` meets its contract. Assumes nothing.
+use native.Mathlib.Omega.{arith}
+use borrow.Author.Tests.{lt-ltb, le-ltb}
+use borrow.Author.Needs.{needs}
+use Rattle.words.specs.Digits.{digitIn}
+use Rattle.words.specs.Unhex.{letter, figure}
+use Rattle.words.proofs.digits.digit.Statement.{statement}
+use Rattle.words.proofs.digits.digit.Tie as tie
+
+sub-result-2 : tie.Need-sub-result-2
+sub-result-2 c = let h = figure _ ((c .before .pre)) (c .if1 .left) in omega arith
+
+returns : tie.Need-returns
+unfolding digitIn
+returns c = (rw (le-ltb _ 97 (c .if1 .taken)), (let h = letter _ ((c .before .pre)) (c .if1 .taken) in omega arith))
+
+returns-2 : tie.Need-returns-2
+unfolding digitIn
+returns-2 c = (rw (lt-ltb _ 97 (c .if1 .left)), (let h = figure _ ((c .before .pre)) (c .if1 .left) in omega arith))
+
+pub digit-spec : {M : Type 1} → statement M
+digit-spec = tie.close (tie.spec (λ c. search needs) sub-result-2 returns returns-2)

@@ -1,0 +1,4 @@
+pub mod Words
+pub mod Digits
+pub mod Unhex
+pub mod Exact
