@@ -7,3 +7,4 @@ pub mod Lines
 pub mod Shown
 pub mod Fits
 pub mod Bench
+pub mod ShutOut

@@ -1,6 +1,5 @@
 -- How a row's sum comes about, drive by drive, in a block of zeros. Assumes nothing.
-use Prim.Native.Nat.{ℕ, _+_, _≤_, _<_}
-use native.Mathlib.Nat.{one-mul}
+use Prim.Native.Nat.{ℕ, _+_, _<_}
 use native.Mathlib.Numerals.{add-one}
 use native.Mathlib.Omega.{arith}
 use mathlib.Core.Bool.{cond, not}
@@ -11,9 +10,7 @@ use lib.ListN.{length, getD, replicate}
 use Rattle.octets.specs.Xor.{_⊻_, xor-nil, xor-regroups, zeros-xor}
 use Rattle.rules.specs.All.{allBelow}
 use Rattle.geometry.specs.declared.Geometry.{Geometry}
-use Rattle.geometry.specs.Header.{place}
 use Rattle.geometry.specs.Frame.{Framed}
-use Rattle.geometry.specs.Places.{Range, range-room}
 use Rattle.sums.specs.Row.{counts, blockIn, summedTo, rowSum, isOpen}
 use Rattle.sums.specs.Bytes.{length-sum}
 
@@ -32,12 +29,6 @@ module _ (s : List ℕ) (g : Geometry) (r : ℕ) where
   sum-more z acc i e = rw (add-one, e) (xor-regroups z (summedTo s g r i) (added i))
 
   module _ (f : Framed s g) (l : r < g .b) where
-    -- every block of the row lies in the image
-    pub block-room : (d : ℕ) → d < g .d → place g d r + g .l ≤ length s
-    block-room d k =
-        let h : Range g d r 1 = record { drive-in = k; range-in = omega arith } in
-        omega (arith, range-room s g d r 1 f h, one-mul (g .l))
-
     pub sum-done : replicate (g .l) 0 ⊻ rowSum s g r ≡ rowSum s g r
     sum-done = zeros-xor (rowSum s g r) (g .l) (omega (arith, length-sum s g r f l))
 

@@ -2,7 +2,7 @@
 use crate::sum;
 use geometry::Geometry;
 ghost use mathlib.Core.Path.{_≡_};
-ghost use Prim.Native.Nat.{_+_, _<_, _≤_};
+ghost use Prim.Native.Nat.{_+_, _-_, _<_, _≤_};
 ghost use lib.Dec.{eqb};
 ghost use lib.ListN.{length, getD};
 ghost use Rattle.rules.specs.All.{allBelow};
@@ -60,11 +60,12 @@ fn row_length(l: usize, row: usize) -> usize
     10 + text::decimal_len(row) + 2 * l
 }
 
-// What is counted with one row more.
+// What is counted with one row more, whose sum is left in sum.
 fn with_row(tally: Tally, sum: &mut [u8], image: &[u8], g: Geometry, row: usize) -> Tally
     requires { ⌜ Framed (now image) g × (row < g .b) × (length (now sum) ≡ g .l) ⌝ }
     requires { ⌜ Counted (now image) g row (tally .rows) (tally .bytes) ⌝ }
     ensures { λ r. ⌜ Counted (now (image .entry)) g (row + 1) (r .rows) (r .bytes) ⌝ }
+    ensures { λ r. ⌜ now (sum .exit) ≡ rowSum (now (image .entry)) g row ⌝ }
 {
     if !is_open(sum, image, g, row) {
         return tally;
@@ -76,10 +77,11 @@ fn with_row(tally: Tally, sum: &mut [u8], image: &[u8], g: Geometry, row: usize)
     }
 }
 
-// Counts the rows: how many are open, and how many bytes their lines take.
+// Counts the rows: how many are open, and how many bytes their lines take. The last row's sum is left in sum.
 pub fn count_rows(sum: &mut [u8], image: &[u8], g: Geometry) -> Tally
     requires { ⌜ Framed (now image) g × (length (now sum) ≡ g .l) ⌝ }
     ensures { λ r. ⌜ Counted (now (image .entry)) g (g .b) (r .rows) (r .bytes) ⌝ }
+    ensures { λ r. ⌜ now (sum .exit) ≡ rowSum (now (image .entry)) g (g .b - 1) ⌝ }
 {
     let b = g.b;
     let mut tally = Tally { rows: 0, bytes: 0 };

@@ -3,9 +3,10 @@ use crate::count;
 use geometry::Geometry;
 ghost use mathlib.Core.Path.{_≡_};
 ghost use mathlib.Core.List.{_++_};
-ghost use Prim.Native.Nat.{_+_, _<_, _≤_};
+ghost use Prim.Native.Nat.{_+_, _-_, _<_, _≤_};
 ghost use lib.ListN.{length};
 ghost use Rattle.geometry.specs.Frame.{Framed};
+ghost use Rattle.sums.specs.Row.{rowSum};
 ghost use Rattle.text.specs.Room.{Wrote, fitted, fittedCount};
 ghost use Rattle.text.specs.Lines.{newline, written};
 ghost use Rattle.rowsum.specs.Listing.{headLine, rowLine, shelfLines};
@@ -34,7 +35,7 @@ fn put_line(out: &mut [u8], at: usize, row: usize, sum: &[u8]) -> usize
     text::put_word(out, at, b"\n")
 }
 
-// Writes the row's line, where the row is open.
+// Writes the row's line, where the row is open. Its sum is left in sum.
 fn put_row(
     out: &mut [u8],
     at: usize,
@@ -46,6 +47,7 @@ fn put_row(
     requires { ⌜ Framed (now image) g × (row < g .b) × (length (now sum) ≡ g .l) ⌝ }
     requires { ⌜ at + length (lineText (now image) g row) ≤ length (now out) ⌝ }
     ensures { λ r. ⌜ Wrote (lineText (now (image .entry)) g row) at r (now (out .entry)) (now (out .exit)) ⌝ }
+    ensures { λ r. ⌜ now (sum .exit) ≡ rowSum (now (image .entry)) g row ⌝ }
 {
     if !count::is_open(sum, image, g, row) {
         return at;
@@ -53,11 +55,12 @@ fn put_row(
     put_line(out, at, row, sum)
 }
 
-// Writes the lines of all rows.
+// Writes the lines of all rows. The last row's sum is left in sum.
 fn put_rows(out: &mut [u8], at: usize, sum: &mut [u8], image: &[u8], g: Geometry) -> usize
     requires { ⌜ Framed (now image) g × (length (now sum) ≡ g .l) ⌝ }
     requires { ⌜ at + length (rowText (now image) g (g .b)) ≤ length (now out) ⌝ }
     ensures { λ r. ⌜ Wrote (rowText (now (image .entry)) g (g .b)) at r (now (out .entry)) (now (out .exit)) ⌝ }
+    ensures { λ r. ⌜ now (sum .exit) ≡ rowSum (now (image .entry)) g (g .b - 1) ⌝ }
 {
     let b = g.b;
     let mut next = at;
@@ -69,9 +72,10 @@ fn put_rows(out: &mut [u8], at: usize, sum: &mut [u8], image: &[u8], g: Geometry
     next
 }
 
-// Writes the whole listing of a shelf, or nothing where the room is too short.
+// Writes the whole listing of a shelf, or nothing where the room is too short. The last row's sum is left in sum.
 pub fn put_shelf(out: &mut [u8], sum: &mut [u8], image: &[u8], g: Geometry) -> usize
     requires { ⌜ Framed (now image) g × (length (now sum) ≡ g .l) ⌝ }
+    ensures { λ r. ⌜ now (sum .exit) ≡ rowSum (now (image .entry)) g (g .b - 1) ⌝ }
     ensures { λ r. ⌜ r ≡ fittedCount (written (shelfLines (now (image .entry)) g)) (now (out .entry)) ⌝ }
     ensures { λ r. ⌜ now (out .exit) ≡ fitted (written (shelfLines (now (image .entry)) g)) (now (out .entry)) ⌝ }
 {

@@ -14,7 +14,7 @@ put-shelf-requires c κs =
     (pre .0, length-take-le _ _ (pre .1))
 
 returns : tie.Need-returns
-returns c = c .before .before .before .before .put-shelf .ensures
+returns c = c .before .before .before .before .put-shelf .ensures .1
 
 pub list-in-spec : {M : Type 1} → statement M
 list-in-spec =

@@ -15,7 +15,7 @@ returns c =
     let args = c .before .before .before .before .before .before .before .before .args in
     let is-open = c .before .before .before .is-open in
     let if1 = c .if1 in
-    rw (line-shut (args .image .now) (args .g) (args .row) (sym (is-open .ensures .0) ∙ not-true _ (if1 .taken))) (wrote-none _ _)
+    (rw (line-shut (args .image .now) (args .g) (args .row) (sym (is-open .ensures .0) ∙ not-true _ (if1 .taken))) (wrote-none _ _), is-open .ensures .1)
 
 put-line-requires : tie.Need-put-line-requires
 put-line-requires c κs =
@@ -35,7 +35,7 @@ returns-2 c =
     let opened = left .before .before .before in
     let args = opened .before .before .before .before .before .args in
     let o = sym (opened .is-open .ensures .0) ∙ not-false _ (left .if1 .left) in
-    rw (line-open (args .image .now) (args .g) (args .row) o, ← opened .is-open .ensures .1) (c .before .before .put-line .ensures)
+    (rw (line-open (args .image .now) (args .g) (args .row) o, ← opened .is-open .ensures .1) (c .before .before .put-line .ensures), opened .is-open .ensures .1)
 
 pub put-row-spec : {M : Type 1} → statement M
 put-row-spec =

@@ -12,8 +12,8 @@ returns c =
     let head-length = c .before .before .head-length in
     let counted = c .before .before .before .before .before in
     let args = counted .before .before .before .before .before .args in
-    let long = shelf-long (args .image .now) (args .g) _ _ (counted .count-rows .ensures) in
-    too-short _ _ (omega (arith, c .if1 .taken, head-length .ensures .0, long))
+    let long = shelf-long (args .image .now) (args .g) _ _ (counted .count-rows .ensures .0) in
+    (counted .count-rows .ensures .1, too-short _ _ (omega (arith, c .if1 .taken, head-length .ensures .0, long)))
 
 put-rows-requires : tie.Need-put-rows-requires
 put-rows-requires c κs =
@@ -24,7 +24,7 @@ put-rows-requires c κs =
     let args = counted .before .before .before .before .before .args in
     let long = length-head (args .g) (counted .count-rows .result .rows) in (
       (search needs, search needs),
-      omega (arith, fitting .if1 .left, head-length .ensures .0, long, headed .put-head .ensures .ends, counted .count-rows .ensures .bytes-are),
+      omega (arith, fitting .if1 .left, head-length .ensures .0, long, headed .put-head .ensures .ends, counted .count-rows .ensures .0 .bytes-are),
     )
 
 returns-2 : tie.Need-returns-2
@@ -35,9 +35,9 @@ returns-2 c =
     let head-length = fitting .before .before .head-length in
     let counted = fitting .before .before .before .before .before in
     let args = counted .before .before .before .before .before .args in
-    let long = shelf-long (args .image .now) (args .g) _ _ (counted .count-rows .ensures) in
-    fits _ _ _ _ (omega (arith, fitting .if1 .left, head-length .ensures .0, long))
-    (shelf-wrote (args .image .now) (args .g) _ _ _ _ _ _ _ (counted .count-rows .ensures) (headed .put-head .ensures) (rows .put-rows .ensures))
+    let long = shelf-long (args .image .now) (args .g) _ _ (counted .count-rows .ensures .0) in
+    let wrote = shelf-wrote (args .image .now) (args .g) _ _ _ _ _ _ _ (counted .count-rows .ensures .0) (headed .put-head .ensures) (rows .put-rows .ensures .0) in
+    (rows .put-rows .ensures .1, fits _ _ _ _ (omega (arith, fitting .if1 .left, head-length .ensures .0, long)) wrote)
 
 pub put-shelf-spec : {M : Type 1} → statement M
 put-shelf-spec =

@@ -8,8 +8,8 @@ use borrow.Author.Tests.{not-true, not-false}
 use borrow.Author.Needs.{needs}
 use Rattle.octets.specs.Part.{part}
 use Rattle.octets.specs.Xor.{_⊻_, xor-nil}
+use Rattle.geometry.specs.Places.{block-room}
 use Rattle.sums.specs.Row.{blockIn}
-use Rattle.rowsum.specs.Sum.{block-room}
 use Rattle.rowsum.proofs.sum.add_drive.Statement.{statement}
 use Rattle.rowsum.proofs.sum.add_drive.Tie as tie
 
@@ -25,7 +25,7 @@ xor-from-requires c κs =
     let start = c .before .before .before .before .before .before in
     let args = start .args in
     let pre = start .pre in
-    omega (arith, block-room (args .image .now) (args .g) (args .row) (pre .0) (pre .1) (args .drive) (pre .2), c .place .ensures .0, pre .3)
+    omega (arith, block-room (args .image .now) (args .g) (args .drive) (args .row) (pre .0) (pre .2) (pre .1), c .place .ensures .0, pre .3)
 
 returns-2 : tie.Need-returns-2
 returns-2 c =

@@ -1,0 +1,45 @@
+-- Wrong listings, each by a call or two on the bench shelf after which it has broken the contract of `listing`. Assumes nothing.
+use Prim.Native.Nat.{ℕ}
+use native.Mathlib.Omega.{arith}
+use mathlib.Core.List.{List}
+use mathlib.Core.Path.{_≡_, ap, sym, _∙_}
+use lib.ListN.{getD, replicate}
+use Rattle.octets.specs.Put.{put}
+use Rattle.image.specs.Bench.{bench}
+use Rattle.text.specs.Room.{fitted, fittedCount}
+use Rattle.rowsum.specs.Listing.{listed, listedCount}
+use Rattle.rowsum.specs.Bench.{afterC2, bench-listings}
+
+-- a room of 64 bytes: 34 are written on the bench shelf, 56 after C2
+abbrev room : List ℕ
+room = replicate 64 0
+
+-- it refuses everything
+pub refusing-not : 0 ≡ listedCount bench room → ⊥
+unfolding fittedCount
+refusing-not h = let z : _≡_ {A = ℕ} 0 34 = h ∙ ap (λ (t : List ℕ). fittedCount t room) (bench-listings .0) in omega arith
+
+-- it leaves every room alone, whatever it answers
+pub idle-not : room ≡ listed bench room → ⊥
+unfolding fitted put
+idle-not h =
+    let z : _≡_ {A = ℕ} 0 0x64 = ap (λ (l : List ℕ). getD l 0 0) (h ∙ ap (λ (t : List ℕ). fitted t room) (bench-listings .0)) in
+    omega arith
+
+-- it writes the same text for every image
+pub constant-not : (r : List ℕ) → r ≡ listed bench room → r ≡ listed afterC2 room → ⊥
+unfolding fitted put
+constant-not r h k =
+    let x = h ∙ ap (λ (t : List ℕ). fitted t room) (bench-listings .0) in
+    let y = k ∙ ap (λ (t : List ℕ). fitted t room) (bench-listings .1) in
+    let z : _≡_ {A = ℕ} 0x30 0x31 = ap (λ (l : List ℕ). getD l 32 0) (sym x ∙ y) in
+    omega arith
+
+-- it lists the first image of a run, and then leaves the room alone
+pub first-call-only-not : (r : List ℕ) → r ≡ listed bench room → r ≡ listed afterC2 r → ⊥
+unfolding fitted put
+first-call-only-not r h k =
+    let x = h ∙ ap (λ (t : List ℕ). fitted t room) (bench-listings .0) in
+    let y = k ∙ ap (λ (t : List ℕ). fitted t r) (bench-listings .1) in
+    let z : _≡_ {A = ℕ} 0x30 0x31 = ap (λ (l : List ℕ). getD l 32 0) (rw x at y) in
+    omega arith
