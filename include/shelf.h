@@ -83,7 +83,8 @@ extern "C" {
  *   length            FFFFFFFFh in a REBUILD goes to the last block. With a length of 0, but in an XDREAD, and with a list length of
  *                     0 nothing is moved; the latter sends nothing either.
  *
- * REBUILD and REGENERATE take stack for each source, of which there are at most 255: see docs/DECISIONS.md for the measured figure.
+ * Stack, as measured on x86-64: REBUILD and REGENERATE 4,100 bytes with one source and 16,600 with 255, the most; every other call
+ * less than 1,700.
  *
  * READ of block 7 of the drive with address 1, on a shelf whose blocks have 512 bytes:
  *
