@@ -1,6 +1,7 @@
 // The acts that move bytes between the image and the caller's rooms. What an act does not look at is
 // `[]` or 0 in its contract.
 use geometry::Geometry;
+use geometry::RECORD;
 use meaning::Span;
 ghost use mathlib.Core.Path.{_≡_};
 ghost use mathlib.Core.List.{[]};
@@ -42,7 +43,7 @@ pub fn xdread(image: &mut [u8], g: Geometry, x: Span, i: usize, room: &mut [u8])
     requires { ⌜ Framed (now image) g × Allowed (now image) g [] (length (now room)) (XdRead x i) ⌝ }
     ensures { λ r. ⌜ (now (image .exit) ≡ leaves (now (image .entry)) g [] (XdRead x i)) × (now (room .exit) ≡ put (now (room .entry)) 0 (hands (now (image .entry)) g (XdRead x i))) × (r ≡ length (hands (now (image .entry)) g (XdRead x i))) ⌝ }
 {
-    let n = hand_over(image, g.slot_at(i) + 16, x.count * g.l, room);
+    let n = hand_over(image, g.slot_at(i) + RECORD, x.count * g.l, room);
     slots::release(image, g, i);
     n
 }

@@ -1,6 +1,7 @@
 // REBUILD and REGENERATE.
 use gather::Job;
 use geometry::Geometry;
+use geometry::RECORD;
 use meaning::Span;
 ghost use mathlib.Core.Path.{_≡_};
 ghost use Prim.Native.Nat.{_<_};
@@ -45,7 +46,7 @@ pub fn regenerate(
     let j = Job {
         own: true,
         from: from,
-        to: at + 16,
+        to: at + RECORD,
         count: x.count,
         sources: n,
         int: int,

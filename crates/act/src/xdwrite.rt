@@ -1,6 +1,7 @@
 // XDWRITE: the result goes to the secondary, or is retained.
 use crate::pass::Pass;
 use geometry::Geometry;
+use geometry::RECORD;
 use meaning::Span;
 ghost use mathlib.Core.Path.{_≡_};
 ghost use Rattle.geometry.specs.Frame.{Framed};
@@ -43,7 +44,7 @@ pub fn retain(
     let from = g.place(x.drive, x.block);
     let p = Pass {
         from: from,
-        to: at + 16,
+        to: at + RECORD,
         mirror: mirror,
         writes: ndisc == 0,
         adds: false,

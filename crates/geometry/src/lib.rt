@@ -30,6 +30,9 @@ pub struct Geometry {
 // How many bytes of the table each drive has.
 const STRIDE: usize = 4;
 
+// How many bytes of a slot its record has; the result's bytes follow.
+pub const RECORD: usize = 16;
+
 impl Geometry {
     pub fn read(image: &[u8]) -> Geometry
         requires { ⌜ 32 ≤ length (now image) ⌝ }
@@ -102,7 +105,7 @@ impl Geometry {
         if slots != front {
             return false;
         }
-        if media != front + self.s * (16 + self.m * self.l) {
+        if media != front + self.s * (RECORD + self.m * self.l) {
             return false;
         }
         true
@@ -129,7 +132,7 @@ impl Geometry {
         requires { ⌜ Placed self × (i < self .s) ⌝ }
         ensures { λ r. ⌜ (r ≡ slotAt self i) × (r + 16 + self .m * self .l ≤ self .media) ⌝ }
     {
-        self.slots + i * (16 + self.m * self.l)
+        self.slots + i * (RECORD + self.m * self.l)
     }
 
     // Where a drive's block starts; the block past its last one is the drive's end.

@@ -2,6 +2,7 @@
 use crate::Slot;
 use geometry::Block;
 use geometry::Geometry;
+use geometry::RECORD;
 use rules::Found;
 ghost use mathlib.Core.Path.{_≡_};
 ghost use Prim.Native.Nat.{_+_, _*_, _<_, _≤_};
@@ -65,7 +66,7 @@ pub fn retain(
     match crate::empty_slot(image, g) {
         Found::At(i) => {
             let at = g.slot_at(i);
-            octets::put_at(image, at + 16, bytes);
+            octets::put_at(image, at + RECORD, bytes);
             write_record(
                 image,
                 at,
@@ -115,7 +116,7 @@ pub fn release(image: &mut [u8], g: Geometry, i: usize)
 {
     let r = crate::read_slot(image, g, i);
     let rank = r.rank;
-    octets::zero_at(image, g.slot_at(i), 16);
+    octets::zero_at(image, g.slot_at(i), RECORD);
     lower(image, g, rank);
 }
 
