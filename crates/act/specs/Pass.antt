@@ -1,21 +1,12 @@
 -- What XDWRITE's bytes become, whole and piece by piece. Assumes nothing.
 use Prim.Native.Nat.{ℕ, _+_, _≤_}
-use mathlib.Core.Bool.{Bool, cond}
+use mathlib.Core.Bool.{cond}
 use mathlib.Core.List.{List, []}
-use lib.Dec.{eqb}
 use lib.ListN.{length}
 use Rattle.octets.specs.Part.{part, Apart}
 use Rattle.octets.specs.Put.{put}
-use Rattle.octets.specs.Xor.{_⊻_}
+use Rattle.meaning.specs.Acts.{mixed, laid}
 use Rattle.act.specs.declared.pass.Pass.{Pass}
-
--- "result = data XOR old blocks, or the data itself with Mirror"
-abbrev pub mixed : ℕ → List ℕ → List ℕ → List ℕ
-mixed mirror bytes old = cond (eqb mirror 0) (bytes ⊻ old) bytes
-
--- "XORed into it, or written plainly"
-abbrev pub laid : Bool → List ℕ → List ℕ → List ℕ
-laid adds there bytes = cond adds (there ⊻ bytes) bytes
 
 -- ---- the whole
 
@@ -25,11 +16,11 @@ dataOf sent p = cond (p .writes) sent []
 abbrev pub laidOf : List ℕ → List ℕ → Pass → List ℕ
 laidOf s sent p = laid (p .adds) (part s (p .to) (length sent)) (mixed (p .mirror) sent (part s (p .from) (length sent)))
 
-unfoldable pub passed : List ℕ → List ℕ → Pass → List ℕ
-passed s sent p = put (put s (p .from) (dataOf sent p)) (p .to) (laidOf s sent p)
+unfoldable pub passedOf : List ℕ → List ℕ → Pass → List ℕ
+passedOf s sent p = put (put s (p .from) (dataOf sent p)) (p .to) (laidOf s sent p)
 
 -- the two ranges lie in the image, and apart
-pub record Clear (s sent : List ℕ) (p : Pass) : Type 0 where
+pub record Passable (s sent : List ℕ) (p : Pass) : Type 0 where
   pub from-in : p .from + length sent ≤ length s
   pub to-in : p .to + length sent ≤ length s
   pub apart : Apart (p .from) (p .to) (length sent)

@@ -11,8 +11,9 @@ use Rattle.octets.specs.Part.{part, length-part-le, mid-part}
 use Rattle.octets.specs.Put.{put, put-nil}
 use Rattle.octets.specs.PutPut.{part-put-apart}
 use Rattle.octets.specs.Xor.{_⊻_}
+use Rattle.meaning.specs.Acts.{mixed, laid}
 use Rattle.act.specs.declared.pass.Pass.{Pass}
-use Rattle.act.specs.Pass.{mixed, laid, dataPiece, passedPiece, Clear}
+use Rattle.act.specs.Pass.{dataPiece, passedPiece, Passable}
 
 -- ---- the result's bytes
 
@@ -51,7 +52,7 @@ data-short sent p o k = short (p .writes)
     short false = omega arith
 
 -- data written at its place leaves the bytes there for the result
-pub piece-in-turn : (s sent : List ℕ) (p : Pass) (o k : ℕ) (a t u : List ℕ) → Clear s sent p → o + k ≤ length sent
+pub piece-in-turn : (s sent : List ℕ) (p : Pass) (o k : ℕ) (a t u : List ℕ) → Passable s sent p → o + k ≤ length sent
     → a ≡ mixed (p .mirror) (part sent o k) (part s (p .from + o) k) → length a ≡ k
     → t ≡ put s (p .from + o) (cond (p .writes) (part sent o (length a)) [])
     → u ≡ put t (p .to + o) (laid (p .adds) (part t (p .to + o) (length a)) a) → u ≡ passedPiece s sent p o k

@@ -11,9 +11,11 @@ use Rattle.octets.specs.Part.{part, length-part, length-part-le, part-part, par
 use Rattle.octets.specs.Put.{put, put-nil, length-put}
 use Rattle.octets.specs.PutPut.{part-put-above, put-comm}
 use Rattle.octets.specs.Pieces.{put-parts, part-ahead}
-use Rattle.octets.specs.Xor.{_⊻_, part-xor, length-xor-le}
+use Rattle.octets.specs.Xor.{_⊻_, part-xor}
+use Rattle.meaning.specs.Acts.{mixed, laid}
+use Rattle.meaning.specs.Lengths.{length-laid, length-mixed}
 use Rattle.act.specs.declared.pass.Pass.{Pass}
-use Rattle.act.specs.Pass.{mixed, laid, dataOf, laidOf, passed, laidPiece, passedPiece, Clear}
+use Rattle.act.specs.Pass.{dataOf, laidOf, passedOf, laidPiece, passedPiece, Passable}
 
 -- ---- a piece of the whole
 
@@ -38,48 +40,40 @@ piece-of s sent p o k h =
 
 -- ---- lengths
 
-mixed-length : (none : Bool) (xs ys : List ℕ) → length ys ≡ length xs → length (cond none (xs ⊻ ys) xs) ≡ length xs
-mixed-length true xs ys e = length-xor-le xs ys (omega arith)
-mixed-length false xs ys e = refl
-
-laid-length : (adds : Bool) (xs ys : List ℕ) → length xs ≡ length ys → length (laid adds xs ys) ≡ length ys
-laid-length true xs ys e = length-xor-le xs ys (omega arith) ∙ e
-laid-length false xs ys e = refl
-
 data-length : (writes : Bool) (xs : List ℕ) → length (cond writes xs []) ≤ length xs
 data-length true xs = omega arith
 data-length false xs = omega arith
 
-module _ (s sent : List ℕ) (p : Pass) (h : Clear s sent p) where
+module _ (s sent : List ℕ) (p : Pass) (h : Passable s sent p) where
   laidOf-length : length (laidOf s sent p) ≡ length sent
   laidOf-length =
       let n = length sent in
       let f : length (part s (p .from) n) ≡ n = length-part s (p .from) n (h .from-in) in
       let t : length (part s (p .to) n) ≡ n = length-part s (p .to) n (h .to-in) in
-      let m : length (mixed (p .mirror) sent (part s (p .from) n)) ≡ n = mixed-length (eqb (p .mirror) 0) sent (part s (p .from) n) f in
-      laid-length (p .adds) (part s (p .to) n) (mixed (p .mirror) sent (part s (p .from) n)) (omega arith) ∙ m
+      let m : length (mixed (p .mirror) sent (part s (p .from) n)) ≡ n = length-mixed (p .mirror) sent (part s (p .from) n) f in
+      length-laid (p .adds) (part s (p .to) n) (mixed (p .mirror) sent (part s (p .from) n)) (omega arith) ∙ m
 
 -- ---- the first o bytes are passed on
 
 module _ (s sent : List ℕ) (p : Pass) where
-  unfoldable pub reached : ℕ → List ℕ
-  reached o = put (put s (p .from) (part (dataOf sent p) 0 o)) (p .to) (part (laidOf s sent p) 0 o)
+  unfoldable pub passedTo : ℕ → List ℕ
+  passedTo o = put (put s (p .from) (part (dataOf sent p) 0 o)) (p .to) (part (laidOf s sent p) 0 o)
 
-  pub reached-none : s ≡ reached 0
-  unfolding reached part
-  reached-none = sym (put-nil (put s (p .from) []) (p .to) ∙ put-nil s (p .from))
+  pub passed-none : s ≡ passedTo 0
+  unfolding passedTo part
+  passed-none = sym (put-nil (put s (p .from) []) (p .to) ∙ put-nil s (p .from))
 
-  module _ (h : Clear s sent p) (o : ℕ) (t : List ℕ) (e : t ≡ reached o) where
-    reached-length : length t ≡ length s
-    unfolding reached
-    reached-length =
+  module _ (h : Passable s sent p) (o : ℕ) (t : List ℕ) (e : t ≡ passedTo o) where
+    passed-length : length t ≡ length s
+    unfolding passedTo
+    passed-length =
         ap length e
         ∙ length-put (put s (p .from) (part (dataOf sent p) 0 o)) (p .to) (part (laidOf s sent p) 0 o)
         ∙ length-put s (p .from) (part (dataOf sent p) 0 o)
 
-    pub reached-clear : Clear t sent p
-    reached-clear =
-        let l = reached-length in
+    pub still-passable : Passable t sent p
+    still-passable =
+        let l = passed-length in
         record { from-in = omega (arith, h .from-in); to-in = omega (arith, h .to-in); apart = h .apart }
 
     module _ (k : ℕ) (le : o + k ≤ length sent) where
@@ -91,14 +85,14 @@ module _ (s sent : List ℕ) (p : Pass) where
 
       -- what is not yet passed on stands as it was
       from-kept : part t (p .from + o) k ≡ part s (p .from + o) k
-      unfolding reached
+      unfolding passedTo
       from-kept =
           ap (λ (w : List ℕ). part w (p .from + o) k) e
           ∙ part-ahead (put s (p .from) data-done) (p .to) (length sent) o k laid-done le (length-part-le (laidOf s sent p) 0 o) (p .from) (h .apart)
           ∙ part-put-above s (p .from) data-done (p .from + o) k (omega (arith, length-part-le (dataOf sent p) 0 o))
 
       to-kept : part t (p .to + o) k ≡ part s (p .to + o) k
-      unfolding reached
+      unfolding passedTo
       to-kept =
           ap (λ (w : List ℕ). part w (p .to + o) k) e
           ∙ part-put-above (put s (p .from) data-done) (p .to) laid-done (p .to + o) k (omega (arith, length-part-le (laidOf s sent p) 0 o))
@@ -113,9 +107,9 @@ module _ (s sent : List ℕ) (p : Pass) where
       swap w b d lb ld =
           ⊎-elim (λ l. sym (put-comm w (p .from + o) d (p .to) b (omega arith))) (λ l. put-comm w (p .to) b (p .from + o) d (omega arith)) (h .apart)
 
-      pub reached-more : (u : List ℕ) → u ≡ passedPiece t sent p o k → u ≡ reached (o + k)
-      unfolding reached passedPiece
-      reached-more u ue =
+      pub passed-more : (u : List ℕ) → u ≡ passedPiece t sent p o k → u ≡ passedTo (o + k)
+      unfolding passedTo passedPiece
+      passed-more u ue =
           let v = dataOf sent p in
           let r = laidOf s sent p in
           let a = put s (p .from) (part v 0 o) in
@@ -126,9 +120,9 @@ module _ (s sent : List ℕ) (p : Pass) where
           ∙ ap (λ (x : List ℕ). put (put x (p .to) (part r 0 o)) (p .to + o) (part r o k)) (put-parts s (p .from) v o k)
           ∙ put-parts (put s (p .from) (part v 0 (o + k))) (p .to) r o k
 
-    pub reached-all : length sent ≤ o → t ≡ passed s sent p
-    unfolding reached passed
-    reached-all le =
+    pub passed-all : length sent ≤ o → t ≡ passedOf s sent p
+    unfolding passedTo passedOf
+    passed-all le =
         e
         ∙ ap₂ (λ (x y : List ℕ). put (put s (p .from) x) (p .to) y) (part-whole (dataOf sent p) o (omega (arith, data-length (p .writes) sent)))
         (part-whole (laidOf s sent p) o (omega (arith, laidOf-length s sent p h)))

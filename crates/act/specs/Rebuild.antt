@@ -9,37 +9,32 @@ use lib.ListN.{length}
 use Rattle.octets.specs.Part.{part, Apart}
 use Rattle.octets.specs.Put.{put}
 use Rattle.octets.specs.Xor.{_⊻_, nil-xor}
-use Rattle.rules.specs.Least.{index}
 use Rattle.geometry.specs.declared.Geometry.{Geometry}
 use Rattle.geometry.specs.Header.{slotAt}
 use Rattle.geometry.specs.Frame.{Framed}
-use Rattle.geometry.specs.Places.{Range, place-after-media, places-apart, range-room, slot-before-media, data-ends, data-in}
+use Rattle.geometry.specs.Places.{place-after-media, places-apart, slot-before-media, data-ends, data-in}
 use Rattle.slots.specs.Record.{bytesOf}
 use Rattle.slots.specs.Slots.{usedCount}
 use Rattle.slots.specs.Change.{entry}
 use Rattle.command.specs.Command.{sourceOf}
 use Rattle.meaning.specs.declared.Span.{Span}
 use Rattle.meaning.specs.declared.Act.the-variants.{Rebuild, Regenerate}
-use Rattle.meaning.specs.Acts.{spanAt, gathered, leaves}
-use Rattle.meaning.specs.Allowed.{Blocks, Entry, Sourced, Limited, Free}
-use Rattle.meaning.specs.Lengths.{span-after-media, span-in, list-in, int-exact}
+use Rattle.meaning.specs.Acts.{spanAt, homeOf, startOf, gathered, leaves}
+use Rattle.meaning.specs.Allowed.{Blocks, Sourced, Limited, Free}
+use Rattle.meaning.specs.Lengths.{span-after-media, span-in, home-is, home-range, source-in, list-in, int-exact}
 use Rattle.gather.specs.declared.Job.{Job}
-use Rattle.gather.specs.Job.{summed, homeOf, startOf, Named, Listed, Ready}
+use Rattle.gather.specs.Job.{summed, Named, Listed, Ready}
 
 module _ (s : List ℕ) (g : Geometry) (x : Span) (n int : ℕ) (sent : List ℕ) (frame : Framed s g) (b : Blocks s g x) (h : Sourced s g x n int sent) (few : n < 256) where
   -- ---- the sources
 
-  home-is : (i : ℕ) (e : Entry s g x sent i) → homeOf s g (sourceOf sent i) ≡ e .drive
-  home-is i e = ap index (e .found)
-
-  source-range : (i : ℕ) → i < n → Range g (homeOf s g (sourceOf sent i)) (sourceOf sent i .block .0) (x .count)
-  source-range i l = let e = h .each i l in rw (home-is i e) (e .range)
-
   source-named : (i : ℕ) → i < n → Named s g (sourceOf sent i)
-  source-named i l = let r = source-range i l in record { drive-in = r .drive-in; block-in = omega (arith, r .range-in) }
+  source-named i l =
+      let r = home-range s g x (sourceOf sent i) (h .each i l) in
+      record { drive-in = r .drive-in; block-in = omega (arith, r .range-in) }
 
-  source-in : (i : ℕ) → i < n → startOf s g (sourceOf sent i) + x .count * g .l ≤ length s
-  source-in i l = range-room s g (homeOf s g (sourceOf sent i)) (sourceOf sent i .block .0) (x .count) frame (source-range i l)
+  inside : (i : ℕ) → i < n → startOf s g (sourceOf sent i) + x .count * g .l ≤ length s
+  inside i l = source-in s g x (sourceOf sent i) (h .each i l) frame
 
   sources-listed : Listed s g sent n
   sources-listed =
@@ -48,9 +43,9 @@ module _ (s : List ℕ) (g : Geometry) (x : Span) (n int : ℕ) (sent : List ℕ
   -- another drive's blocks
   source-apart : (i : ℕ) → i < n → Apart (startOf s g (sourceOf sent i)) (spanAt g x) (x .count * g .l)
   source-apart i l =
-      let e = h .each i l in
-      places-apart g (homeOf s g (sourceOf sent i)) (x .drive) (sourceOf sent i .block .0) (x .block .0) (x .count) (rw (home-is i e) (e .other)) (source-range i l)
-      (b .range)
+      let e = sourceOf sent i in
+      let o = h .each i l in
+      places-apart g (homeOf s g e) (x .drive) (e .block .0) (x .block .0) (x .count) (rw (home-is s g x e o) (o .other)) (home-range s g x e o) (b .range)
 
   -- ---- REBUILD
 
@@ -67,7 +62,7 @@ module _ (s : List ℕ) (g : Geometry) (x : Span) (n int : ℕ) (sent : List ℕ
         own-in = a;
         to-in = a;
         own-apart = λ (q : false ≡ true). absurd (true≢false (sym q));
-        inside = source-in;
+        inside = inside;
         apart = λ i l. rw e (source-apart i l);
       }
 
@@ -96,7 +91,7 @@ module _ (s : List ℕ) (g : Geometry) (x : Span) (n int : ℕ) (sent : List ℕ
           own-in = omega (arith, span-in s g x frame (b .range));
           to-in = omega (arith, data-in s g i (x .count) frame (k .slot-in) m);
           own-apart = λ o. inr (omega arith);
-          inside = source-in;
+          inside = inside;
           apart = λ e l. inr (omega (arith, place-after-media g (homeOf s g (sourceOf sent e)) (sourceOf sent e .block .0)));
         }
 

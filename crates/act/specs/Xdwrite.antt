@@ -1,14 +1,14 @@
 -- XDWRITE, from what the decision showed to what the command leaves. Assumes nothing.
 use Prim.Native.Nat.{ℕ, _+_, _*_, _≤_}
 use native.Mathlib.Omega.{arith}
-use mathlib.Core.Path.{_≡_, refl, sym, ap, ap₂, _∙_}
-use mathlib.Core.Bool.{Bool, true, false, cond}
+use mathlib.Core.Path.{_≡_, sym, ap, ap₂, _∙_}
+use mathlib.Core.Bool.{true, false, cond}
 use mathlib.Core.Logic.{inl, inr, ⊎-elim}
-use mathlib.Core.List.{List, [], _∷_, _++_}
+use mathlib.Core.List.{List, [], _∷_}
 use lib.Dec.{eqb}
 use lib.ListN.{length}
 use Rattle.octets.specs.Part.{part}
-use Rattle.octets.specs.Put.{put, put-nil}
+use Rattle.octets.specs.Put.{put}
 use Rattle.geometry.specs.declared.Geometry.{Geometry}
 use Rattle.geometry.specs.Header.{slotAt, dataAt}
 use Rattle.geometry.specs.Frame.{Framed}
@@ -18,11 +18,12 @@ use Rattle.slots.specs.Slots.{usedCount}
 use Rattle.slots.specs.Change.{entry}
 use Rattle.meaning.specs.declared.Span.{Span}
 use Rattle.meaning.specs.declared.Act.the-variants.{Couple, Retain}
-use Rattle.meaning.specs.Acts.{Store, store, stored, spanAt, leaves}
+use Rattle.meaning.specs.Acts.{store, spanAt, mixed, laid, leaves}
+use Rattle.meaning.specs.Stores.{stored-data}
 use Rattle.meaning.specs.Allowed.{Blocks, Filled, Limited, Free}
 use Rattle.meaning.specs.Lengths.{span-after-media, span-in}
 use Rattle.act.specs.declared.pass.Pass.{Pass}
-use Rattle.act.specs.Pass.{mixed, laid, passed, Clear}
+use Rattle.act.specs.Pass.{passedOf, Passable}
 
 -- ---- the result goes to the secondary
 
@@ -31,8 +32,8 @@ coupling from to mirror = record { from = from; to = to; mirror = mirror; writes
 
 module _ (s : List ℕ) (g : Geometry) (x y : Span) (mirror from to : ℕ) (sent : List ℕ) (same : x .count ≡ y .count) (f : Filled g x sent)
     (fe : from ≡ spanAt g x) (te : to ≡ spanAt g y) where
-  pub couple-clear : Framed s g → Blocks s g x → Blocks s g y → (x .drive ≡ y .drive → ⊥) → Clear s sent (coupling from to mirror)
-  couple-clear frame b c ne =
+  pub couple-passable : Framed s g → Blocks s g x → Blocks s g y → (x .drive ≡ y .drive → ⊥) → Passable s sent (coupling from to mirror)
+  couple-passable frame b c ne =
       let n : y .count * g .l ≡ length sent = ap (λ (k : ℕ). k * g .l) (sym same) ∙ sym f in
       let r : Range g (y .drive) (y .block .0) (x .count) = rw same (c .range) in
       record {
@@ -41,8 +42,8 @@ module _ (s : List ℕ) (g : Geometry) (x y : Span) (mirror from to : ℕ) (sent
         apart = ⊎-elim (λ l. inl (omega (arith, f))) (λ l. inr (omega (arith, f))) (places-apart g (x .drive) (y .drive) (x .block .0) (y .block .0) (x .count) ne (b .range) r);
       }
 
-  pub coupled-by : (t : List ℕ) → t ≡ passed s sent (coupling from to mirror) → t ≡ leaves s g sent (Couple x y mirror)
-  unfolding passed
+  pub coupled-by : (t : List ℕ) → t ≡ passedOf s sent (coupling from to mirror) → t ≡ leaves s g sent (Couple x y mirror)
+  unfolding passedOf
   coupled-by t e =
       let m : length sent ≡ y .count * g .l = f ∙ ap (λ (k : ℕ). k * g .l) same in
       let v : List ℕ = mixed mirror sent (part s (spanAt g x) (x .count * g .l)) in
@@ -52,19 +53,13 @@ module _ (s : List ℕ) (g : Geometry) (x y : Span) (mirror from to : ℕ) (sent
 
 -- ---- the result is retained
 
-abbrev keeping : ℕ → ℕ → ℕ → ℕ → Pass
-keeping from at mirror ndisc = record { from = from; to = at + 16; mirror = mirror; writes = eqb ndisc 0; adds = false }
-
--- nothing stored is nothing written
-stored-data : (s : List ℕ) (at : ℕ) (sent : List ℕ) (writes : Bool) (ws : List Store)
-    → stored s (cond writes (store at sent ∷ []) [] ++ ws) ≡ stored (put s at (cond writes sent [])) ws
-stored-data s at sent true ws = refl
-stored-data s at sent false ws = ap (λ (t : List ℕ). stored t ws) (sym (put-nil s at))
+abbrev retaining : ℕ → ℕ → ℕ → ℕ → Pass
+retaining from at mirror ndisc = record { from = from; to = at + 16; mirror = mirror; writes = eqb ndisc 0; adds = false }
 
 module _ (s : List ℕ) (g : Geometry) (x : Span) (i mirror ndisc from at : ℕ) (sent : List ℕ) (f : Filled g x sent)
     (fe : from ≡ spanAt g x) (ae : at ≡ slotAt g i) where
-  pub retain-clear : Framed s g → Blocks s g x → Limited g x → Free s g i → Clear s sent (keeping from at mirror ndisc)
-  retain-clear frame b m k =
+  pub retain-passable : Framed s g → Blocks s g x → Limited g x → Free s g i → Passable s sent (retaining from at mirror ndisc)
+  retain-passable frame b m k =
       let a = span-after-media g x in
       let d : dataAt g i + length sent ≤ g .media =
       omega (arith, slot-before-media g i (frame .placed) (k .slot-in), data-ends g i (x .count) m, f) in
@@ -74,9 +69,9 @@ module _ (s : List ℕ) (g : Geometry) (x : Span) (i mirror ndisc from at : ℕ)
         apart = inr (omega arith);
       }
 
-  pub retained-by : (rank : ℕ) (t u : List ℕ) → rank ≡ usedCount s g + 1 → t ≡ passed s sent (keeping from at mirror ndisc)
+  pub retained-by : (rank : ℕ) (t u : List ℕ) → rank ≡ usedCount s g + 1 → t ≡ passedOf s sent (retaining from at mirror ndisc)
       → u ≡ put t at (bytesOf (entry rank 1 (x .drive) (x .block .0) (x .count))) → u ≡ leaves s g sent (Retain x i mirror ndisc)
-  unfolding passed
+  unfolding passedOf
   retained-by rank t u re te ue =
       let r : List ℕ = bytesOf (entry (usedCount s g + 1) 1 (x .drive) (x .block .0) (x .count)) in
       let v : List ℕ = mixed mirror sent (part s (spanAt g x) (x .count * g .l)) in
@@ -84,4 +79,4 @@ module _ (s : List ℕ) (g : Geometry) (x : Span) (i mirror ndisc from at : ℕ)
       ∙ ap₂ (λ (w : List ℕ) (n : ℕ). put w at (bytesOf (entry n 1 (x .drive) (x .block .0) (x .count)))) te re
       ∙ ap₂ (λ (a n : ℕ). put (put (put s a (cond (eqb ndisc 0) sent [])) (at + 16) (mixed mirror sent (part s a n))) at r) fe f
       ∙ ap (λ (a : ℕ). put (put (put s (spanAt g x) (cond (eqb ndisc 0) sent [])) (a + 16) v) a r) ae
-      ∙ sym (stored-data s (spanAt g x) sent (eqb ndisc 0) (store (dataAt g i) v ∷ store (slotAt g i) r ∷ []))
+      ∙ sym (stored-data s g x ndisc sent (store (dataAt g i) v ∷ store (slotAt g i) r ∷ []))

@@ -7,7 +7,8 @@ ghost use Prim.Native.Nat.{_+_, _<_, _≤_};
 ghost use lib.ListN.{length};
 ghost use Rattle.octets.specs.Part.{part};
 ghost use Rattle.octets.specs.Put.{put};
-ghost use Rattle.act.specs.Pass.{mixed, laid, passed, passedPiece, Clear};
+ghost use Rattle.meaning.specs.Acts.{mixed, laid};
+ghost use Rattle.act.specs.Pass.{passedOf, passedPiece, Passable};
 
 // The result of the bytes sent over those at index from goes to index to, with adds XORed into what
 // is there; with writes the bytes sent go to index from.
@@ -21,8 +22,8 @@ pub struct Pass {
 
 // All of it. The piece lives here, and nowhere else.
 pub fn pass_on(image: &mut [u8], sent: &[u8], p: Pass)
-    requires { ⌜ Clear (now image) (now sent) p ⌝ }
-    ensures { λ _. ⌜ now (image .exit) ≡ passed (now (image .entry)) (now (sent .entry)) p ⌝ }
+    requires { ⌜ Passable (now image) (now sent) p ⌝ }
+    ensures { λ _. ⌜ now (image .exit) ≡ passedOf (now (image .entry)) (now (sent .entry)) p ⌝ }
 {
     let mut piece = [0u8; 512];
     pass_by(image, sent, p, &mut piece);
@@ -30,8 +31,8 @@ pub fn pass_on(image: &mut [u8], sent: &[u8], p: Pass)
 
 // All of it, through pieces of at most as many bytes as buf has.
 fn pass_by(image: &mut [u8], sent: &[u8], p: Pass, buf: &mut [u8])
-    requires { ⌜ Clear (now image) (now sent) p × (0 < length (now buf)) ⌝ }
-    ensures { λ _. ⌜ now (image .exit) ≡ passed (now (image .entry)) (now (sent .entry)) p ⌝ }
+    requires { ⌜ Passable (now image) (now sent) p × (0 < length (now buf)) ⌝ }
+    ensures { λ _. ⌜ now (image .exit) ≡ passedOf (now (image .entry)) (now (sent .entry)) p ⌝ }
 {
     let n = sent.len();
     let mut o = 0;
@@ -44,7 +45,7 @@ fn pass_by(image: &mut [u8], sent: &[u8], p: Pass, buf: &mut [u8])
 
 // A piece of k bytes, through the front of buf.
 fn pass_front(image: &mut [u8], sent: &[u8], p: Pass, o: usize, k: usize, buf: &mut [u8])
-    requires { ⌜ Clear (now image) (now sent) p × (o + k ≤ length (now sent)) × (k ≤ length (now buf)) ⌝ }
+    requires { ⌜ Passable (now image) (now sent) p × (o + k ≤ length (now sent)) × (k ≤ length (now buf)) ⌝ }
     ensures { λ _. ⌜ now (image .exit) ≡ passedPiece (now (image .entry)) (now (sent .entry)) p o k ⌝ }
 {
     pass_piece(image, sent, p, o, &mut buf[..k]);
@@ -52,7 +53,7 @@ fn pass_front(image: &mut [u8], sent: &[u8], p: Pass, o: usize, k: usize, buf: &
 
 // The bytes from o on, as many as acc has.
 fn pass_piece(image: &mut [u8], sent: &[u8], p: Pass, o: usize, acc: &mut [u8])
-    requires { ⌜ Clear (now image) (now sent) p × (o + length (now acc) ≤ length (now sent)) ⌝ }
+    requires { ⌜ Passable (now image) (now sent) p × (o + length (now acc) ≤ length (now sent)) ⌝ }
     ensures { λ _. ⌜ now (image .exit) ≡ passedPiece (now (image .entry)) (now (sent .entry)) p o (length (now (acc .entry))) ⌝ }
 {
     let from = p.from + o;

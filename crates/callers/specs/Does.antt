@@ -14,17 +14,15 @@ use Rattle.image.specs.Shelf.{Shelf, shelf-frame}
 use Rattle.sense.specs.declared.Answer.the-variants.{Good}
 use Rattle.sense.specs.Sense.{outcomeOf}
 use Rattle.meaning.specs.declared.Span.{Span}
-use Rattle.meaning.specs.Step.{stepImage, stepRoom, stepOutcome}
+use Rattle.meaning.specs.Stepped.{Stepped}
 
 -- n blocks of drive t from block b on
 abbrev pub blocks : ℕ → ℕ → ℕ → Span
 blocks t b n = record { drive = t; block = record { 0 = b }; count = n }
 
 -- on image m, to address a, CDB c with data-out bytes s and receive room r is GOOD, hands out n bytes, and leaves image m′ and room r′
-pub record Does (m : List ℕ) (a : ℕ) (c s r : List ℕ) (n : ℕ) (m′ r′ : List ℕ) : Type 0 where
-  pub outcome : stepOutcome m a c s r ≡ outcomeOf Good n
-  pub image : stepImage m a c s r ≡ m′
-  pub room : stepRoom m a c s r ≡ r′
+abbrev pub Does : List ℕ → ℕ → List ℕ → List ℕ → List ℕ → ℕ → List ℕ → List ℕ → Type 0
+Does m a c s r n m′ r′ = Stepped m a c s r (outcomeOf Good n) m′ r′
 
 -- address a names drive t of the valid image m, which is present
 pub record Target (m : List ℕ) (g : Geometry) (a t : ℕ) : Type 0 where

@@ -17,20 +17,18 @@ use Rattle.rules.specs.Every.{every}
 use Rattle.rules.specs.All.{allBelow}
 use Rattle.rules.specs.Count.{countBelow}
 use Rattle.rules.specs.Least.{leastBelow}
-use Rattle.geometry.specs.declared.Geometry.{Geometry}
-use Rattle.geometry.specs.Header.{geometryOf, rangesOk, offsetsOk, framedOk, slotAt, place}
+use Rattle.geometry.specs.Header.{rangesOk, offsetsOk, framedOk, slotAt, place}
 use Rattle.drives.specs.Table.{statesOk, newAddress, addressesOk, tableOk, driveOf, failed}
 use Rattle.slots.specs.Record.{slotOf, bytesOf}
 use Rattle.slots.specs.Slots.{slotOk, eachOk, ranksOk, slotsOk}
 use Rattle.slots.specs.Find.{emptySlot, better, bestOf, newestOf}
 use Rattle.slots.specs.Change.{released, lowerOne, lowered}
-use Rattle.image.specs.Shelf.{Shelf, shelf}
-use Rattle.image.specs.Bench.{bench, bench-valid}
+use Rattle.image.specs.Shelf.{Shelf}
+use Rattle.image.specs.Bench.{zeros, shelfOf, vacant, holding, one, two, three, bench, fresh, result, afterC2, benchShape, bench-shelf}
 use Rattle.command.specs.declared.Op.the-variants.{XpWrite}
 use Rattle.command.specs.Lossless.{cdbOf}
 use Rattle.meaning.specs.Allowed.{Blocks}
-use Rattle.meaning.specs.Cases.{zeros, shelfOf, one, two, three, fresh, result, parity, vacant, holding, left, xdwrite, ten, listed, head, room, afterC2}
-use Rattle.meaning.specs.Cases.{source as sourceBytes}
+use Rattle.meaning.specs.Cases.{parity, left, xdwrite, ten, listCdb, head, sourceBytes, room}
 use Rattle.callers.specs.Bytes.{readCdb, writeCdb, xpwriteCdb, xdreadCdb, xdwriteCdb, rebuildCdb, regenerateCdb}
 use Rattle.callers.specs.Lists.{source, listOf}
 use Rattle.callers.specs.Does.{blocks, Does, Target}
@@ -42,10 +40,6 @@ use Rattle.callers.specs.Sources.{Names}
 use Rattle.callers.specs.Listed.{together-byte}
 use Rattle.callers.specs.Operands.{rebuild-lists, regenerate-lists}
 
--- "D 3, B 2, L 4, S 1, M 2; image 92 bytes, slots at 44, media at 68", as its header says
-abbrev shape : Geometry
-shape = geometryOf bench
-
 -- ---- the CDBs and a list, byte for byte
 
 pub bytes-are :
@@ -54,22 +48,19 @@ pub bytes-are :
     × (xpwriteCdb 0 9 0 ≡ ten 0xC1 9 0)
     × (xdreadCdb 0 1 ≡ ten 0xC2 0 1)
     × (xdwriteCdb 0x06 0 1 3 0 ≡ xdwrite 0x06)
-    × (rebuildCdb 0 1 2 ≡ listed 0xC3 0x18)
-    × (regenerateCdb 0 1 1 ≡ listed 0xC4 0x10)
+    × (rebuildCdb 0 1 2 ≡ listCdb 0xC3 0x18)
+    × (regenerateCdb 0 1 1 ≡ listCdb 0xC4 0x10)
     × (listOf 0 (source 2 0 ∷ source 3 0 ∷ []) fresh ≡ head 2 ++ sourceBytes 2 ++ sourceBytes 3 ++ fresh)
 unfolding cdbOf toBe
 bytes-are = (refl, refl, refl, refl, refl, refl, refl, refl)
 
 -- ---- the shelves that the cases start on
 
-bench-shelf : Shelf bench shape
-bench-shelf = shelf bench bench-valid
-
 -- C2's result retained; read; C7's drive 1 zeroed
 started :
-    Shelf afterC2 shape
-    × Shelf (shelfOf 0 (left result) fresh two three) shape
-    × Shelf (shelfOf 0 vacant zeros two three) shape
+    Shelf afterC2 benchShape
+    × Shelf (shelfOf 0 (left result) fresh two three) benchShape
+    × Shelf (shelfOf 0 vacant zeros two three) benchShape
 unfolding framedOk rangesOk offsetsOk tableOk statesOk newAddress addressesOk slotsOk eachOk ranksOk slotOk slotOf slotAt every allBelow countBelow part num
 started = (
   record { header = refl; framed-ok = refl; table-ok = refl; slots-ok = refl },
@@ -77,18 +68,16 @@ started = (
   record { header = refl; framed-ok = refl; table-ok = refl; slots-ok = refl },
 )
 
-module _ (m : List ℕ) (t b : ℕ) (l : t < 3) (k : b + 1 ≤ 2) (up : failed m shape t ≡ false) where
+module _ (m : List ℕ) (t b : ℕ) (l : t < 3) (k : b + 1 ≤ 2) (up : failed m benchShape t ≡ false) where
   -- a block
-  at : Blocks m shape (blocks t b 1)
-  unfolding part num
+  at : Blocks m benchShape (blocks t b 1)
   at = record { range = record { drive-in = l; range-in = k }; present = up; some = lit≤ tt }
 
   -- as a source of drive d's
-  from : (a d : ℕ) → a < 4294967296 → driveOf m shape a ≡ At t → (t ≡ d → ⊥) → Names m shape (blocks d 0 1) (source a b)
-  unfolding part num
-  from a d s f o = record { drive = t; found = f; small = s; range = record { drive-in = l; range-in = k }; present = up; other = o }
+  from : (a d : ℕ) → a < 4294967296 → driveOf m benchShape a ≡ At t → (t ≡ d → ⊥) → Names m benchShape (blocks d 0 1) (source a b)
+  from a d s f o = record { there = record { drive = t; found = f; range = record { drive-in = l; range-in = k }; present = up; other = o }; small = s }
 
-first : Target bench shape 1 0
+first : Target bench benchShape 1 0
 unfolding driveOf leastBelow part num
 first = record { shelf = bench-shelf; found = refl; present = refl }
 
@@ -98,7 +87,7 @@ first = record { shelf = bench-shelf; found = refl; present = refl }
 pub c1 : Does bench 1 (xdwrite 0x00) fresh room 0 (shelfOf 0 vacant fresh two parity) room
 unfolding cdbOf toBe driveOf leastBelow part num put place _⊻_
 c1 =
-    coupled-does bench shape 1 0 first 0 1 fresh room (at bench 0 0 (lit≤ tt) (lit≤ tt) refl) refl (lit≤ tt) 0 0 0
+    coupled-does bench benchShape 1 0 first 0 1 fresh room (at bench 0 0 (lit≤ tt) (lit≤ tt) refl) refl (lit≤ tt) 0 0 0
     (record { no-other = refl; mirror-is = refl; ndisc-is = refl; sec-is = refl }) (inl refl) 3 2 0 refl (lit≤ tt)
     (at bench 2 0 (lit≤ tt) (lit≤ tt) refl) (λ q. omega arith)
 
@@ -106,7 +95,7 @@ c1 =
 pub c2 : Does bench 1 (xdwrite 0x06) fresh room 0 afterC2 room
 unfolding cdbOf toBe emptySlot leastBelow slotOf slotAt bytesOf countBelow part num put place _⊻_
 c2 =
-    retained-does bench shape 1 0 first 0 1 fresh room (at bench 0 0 (lit≤ tt) (lit≤ tt) refl) refl (lit≤ tt) 0x06 0 0
+    retained-does bench benchShape 1 0 first 0 1 fresh room (at bench 0 0 (lit≤ tt) (lit≤ tt) refl) refl (lit≤ tt) 0x06 0 0
     (record { no-other = refl; mirror-is = refl; ndisc-is = refl; sec-is = refl }) 3 0 (lit≤ tt) (lit≤ tt) 0
     (record { takes = refl; slot-in = lit≤ tt; unused = refl })
 
@@ -116,40 +105,40 @@ pub c3 :
     × Does (shelfOf 0 (left result) fresh two three) 3 (ten 0xC1 0 1) result room 0 (shelfOf 0 (left result) fresh two parity) room
 unfolding cdbOf toBe driveOf newestOf bestOf better every leastBelow slotOf slotAt released lowered lowerOne part num put place _⊻_
 c3 = (
-  xdread-does afterC2 shape 1 0 (record { shelf = started .0; found = refl; present = refl }) 0 1 room (lit≤ tt) 0
+  xdread-does afterC2 benchShape 1 0 (record { shelf = started .0; found = refl; present = refl }) 0 1 room (lit≤ tt) 0
       (record { answers = refl; slot-in = lit≤ tt; same-len = refl; limited = lit≤ tt }),
-  xpwrite-does (shelfOf 0 (left result) fresh two three) shape 3 2 (record { shelf = started .1; found = refl; present = refl }) 0 1 result room 0 refl
+  xpwrite-does (shelfOf 0 (left result) fresh two three) benchShape 3 2 (record { shelf = started .1; found = refl; present = refl }) 0 1 result room 0 refl
       (at (shelfOf 0 (left result) fresh two three) 2 0 (lit≤ tt) (lit≤ tt) refl) refl (lit≤ tt),
 )
 
 -- C7
-pub c7 : Does (shelfOf 0 vacant zeros two three) 1 (listed 0xC3 0x18) (head 2 ++ sourceBytes 2 ++ sourceBytes 3) room 0 bench room
+pub c7 : Does (shelfOf 0 vacant zeros two three) 1 (listCdb 0xC3 0x18) (head 2 ++ sourceBytes 2 ++ sourceBytes 3) room 0 bench room
 unfolding cdbOf toBe driveOf leastBelow part num put place _⊻_ xorAll
 c7 =
     let m = shelfOf 0 vacant zeros two three in
-    rebuild-lists m shape 1 0 (record { shelf = started .2; found = refl; present = refl }) 0 1 (source 2 0 ∷ source 3 0 ∷ []) 0 []
+    rebuild-lists m benchShape 1 0 (record { shelf = started .2; found = refl; present = refl }) 0 1 (source 2 0 ∷ source 3 0 ∷ []) 0 []
     (from m 1 0 (lit≤ tt) (lit≤ tt) refl 2 0 (lit≤ tt) refl (λ q. omega arith), (from m 2 0 (lit≤ tt) (lit≤ tt) refl 3 0 (lit≤ tt) refl (λ q. omega arith), tt)) refl
     (lit≤ tt) (lit≤ tt) (at m 0 0 (lit≤ tt) (lit≤ tt) refl) room 0 (together-byte 0 (inl refl)) 1 (inl refl) (inl refl)
 
 -- C8
-pub c8 : Does bench 2 (listed 0xC4 0x10) (head 1 ++ sourceBytes 3) room 0 (shelfOf 0 (holding 2 1 one) one two three) room
+pub c8 : Does bench 2 (listCdb 0xC4 0x10) (head 1 ++ sourceBytes 3) room 0 (shelfOf 0 (holding 2 1 one) one two three) room
 unfolding cdbOf toBe driveOf emptySlot leastBelow slotOf slotAt bytesOf countBelow part num put place _⊻_ xorAll
 c8 =
-    regenerate-lists bench shape 2 1 (record { shelf = bench-shelf; found = refl; present = refl }) 0 1 (source 3 0 ∷ []) 0 []
+    regenerate-lists bench benchShape 2 1 (record { shelf = bench-shelf; found = refl; present = refl }) 0 1 (source 3 0 ∷ []) 0 []
     (from bench 2 0 (lit≤ tt) (lit≤ tt) refl 3 1 (lit≤ tt) refl (λ q. omega arith), tt) refl
     (lit≤ tt) (lit≤ tt) (at bench 1 0 (lit≤ tt) (lit≤ tt) refl) room 0 (together-byte 0 (inl refl)) (lit≤ tt) 0
     (record { takes = refl; slot-in = lit≤ tt; unused = refl })
 
 -- WRITE to the same block
-pub written : Does bench 1 (ten 0x2A 0 1) fresh room 0 (shelfOf 0 vacant fresh two three) room
+pub write-case : Does bench 1 (ten 0x2A 0 1) fresh room 0 (shelfOf 0 vacant fresh two three) room
 unfolding cdbOf toBe part num put place
-written = write-does bench shape 1 0 first 0 1 fresh room 0 refl (at bench 0 0 (lit≤ tt) (lit≤ tt) refl) refl (lit≤ tt)
+write-case = write-does bench benchShape 1 0 first 0 1 fresh room 0 refl (at bench 0 0 (lit≤ tt) (lit≤ tt) refl) refl (lit≤ tt)
 
 -- C10's READ that is GOOD, and C11
 pub c10 : Does bench 1 (ten 0x28 1 1) [] room 4 bench (zeros ++ replicate 4 0xAA)
 unfolding cdbOf toBe part num put place
-c10 = read-does bench shape 1 0 first 1 1 room (lit≤ tt) 0 refl (lit≤ tt) (at bench 0 1 (lit≤ tt) (lit≤ tt) refl)
+c10 = read-does bench benchShape 1 0 first 1 1 room (lit≤ tt) 0 refl (lit≤ tt) (at bench 0 1 (lit≤ tt) (lit≤ tt) refl)
 
 pub c11 : Does bench 1 (ten 0xC1 9 0) [] room 0 bench room
 unfolding cdbOf toBe
-c11 = idle-does bench shape 1 0 first 9 (lit≤ tt) room 0 refl XpWrite tt
+c11 = idle-does bench benchShape 1 0 first 9 (lit≤ tt) room 0 refl XpWrite tt

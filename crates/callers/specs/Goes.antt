@@ -1,8 +1,8 @@
 -- A command whose checks pass is carried out, and what it then leaves. Assumes nothing.
 use Prim.Native.Nat.{ℕ}
 use mathlib.Core.Bool.{Bool, not, _&&_}
-use mathlib.Core.Path.{_≡_, refl, ap, ap₂, subst, _∙_}
-use mathlib.Core.List.{List, [], _∷_, _++_}
+use mathlib.Core.Path.{_≡_, refl, sym, ap, ap₂, subst, _∙_}
+use mathlib.Core.List.{List, [], _++_}
 use lib.Dec.{eqb}
 use lib.ListN.{length}
 use borrow.Author.Tests.{eq-eqb}
@@ -14,17 +14,16 @@ use Rattle.geometry.specs.Header.{geometryOf}
 use Rattle.drives.specs.Table.{driveOf}
 use Rattle.image.specs.Shelf.{shelf-valid}
 use Rattle.sense.specs.declared.Answer.the-variants.{Good}
-use Rattle.sense.specs.Sense.{outcomeOf}
 use Rattle.command.specs.declared.Op.{Op}
 use Rattle.command.specs.declared.Command.{Command}
 use Rattle.command.specs.Command.{sizeOf, commandOf}
 use Rattle.meaning.specs.declared.Act.{Act}
-use Rattle.meaning.specs.declared.Seen.{Seen}
 use Rattle.meaning.specs.declared.Decision.{Decision}
 use Rattle.meaning.specs.declared.Decision.the-variants.{Stop, Go}
 use Rattle.meaning.specs.Acts.{leaves, hands}
 use Rattle.meaning.specs.Checks.{isNothing, calls, cdbCalls, known, commandChecks, acts, decideOf}
-use Rattle.meaning.specs.Step.{decided, imageAfter, roomAfter, outcomeAfter, stepImage, stepRoom, stepOutcome}
+use Rattle.meaning.specs.Step.{decided}
+use Rattle.meaning.specs.Stepped.{went}
 use Rattle.callers.specs.Bytes.{Says}
 use Rattle.callers.specs.Does.{Does, Target}
 
@@ -60,30 +59,12 @@ module _ (m : List ℕ) (g : Geometry) (a t : ℕ) (h : Target m g a t) (c s r :
       then h .present
       then tt)
 
-  -- a decision to go, by what it leaves
-  pub goes : (x : Act) → decided m a c s r ≡ Go x Good → Does m a c s r (length (hands m g x)) (leaves m g s x) (put r 0 (hands m g x))
-  unfolding stepOutcome stepImage stepRoom
-  goes x e =
-      record {
-        outcome = ap (λ (d : Decision). outcomeAfter d m) e ∙ ap (λ (j : Geometry). outcomeOf Good (length (hands m j x))) (h .shelf .header);
-        image = ap (λ (d : Decision). imageAfter d m s) e ∙ ap (λ (j : Geometry). leaves m j s x) (h .shelf .header);
-        room = ap (λ (d : Decision). roomAfter d m r) e ∙ ap (λ (j : Geometry). put r 0 (hands m j x)) (h .shelf .header);
-      }
-
-  -- a stop that is GOOD moves nothing
-  pub stays : (n : ℕ) (w : Seen) → decided m a c s r ≡ Stop n w Good → Does m a c s r 0 m r
-  unfolding stepOutcome stepImage stepRoom
-  stays n w e =
-      record {
-        outcome = ap (λ (d : Decision). outcomeAfter d m) e;
-        image = ap (λ (d : Decision). imageAfter d m s) e;
-        room = ap (λ (d : Decision). roomAfter d m r) e;
-      }
-
   -- every check passes
   module _ (o : Op) (k : Command) (x : Act) (w : Says c o k) (p : AllPass (commandChecks o m g t k s (length r))) (e : acts o m g t k s ≡ Go x Good) where
     pub does : Does m a c s r (length (hands m g x)) (leaves m g s x) (put r 0 (hands m g x))
-    does = goes x (from-four o k w ∙ none-decides Stop (commandChecks o m g t k s (length r)) (acts o m g t k s) p ∙ e)
+    does =
+        went m a c s r x Good g _ _ _ _ (from-four o k w ∙ none-decides Stop (commandChecks o m g t k s (length r)) (acts o m g t k s) p ∙ e)
+        (sym (h .shelf .header)) refl refl refl refl
 
     -- nothing is handed out
     pub does-quietly : hands m g x ≡ [] → Does m a c s r 0 (leaves m g s x) r

@@ -23,9 +23,10 @@ use Rattle.meaning.specs.declared.Decision.the-variants.{Stop}
 use Rattle.meaning.specs.Sources.{isAt}
 use Rattle.meaning.specs.Step.{decided}
 use Rattle.meaning.specs.Checks.{Check, fields, sends, lists, ranges, busy, nested, rooms, acts}
+use Rattle.meaning.specs.Stepped.{stopped}
 use Rattle.callers.specs.Bytes.{Together, tenSaying, sixteenSaying, xdwriteCdb, ten-says, xdwrite-says}
 use Rattle.callers.specs.Does.{Does, Target}
-use Rattle.callers.specs.Goes.{_then_, from-four, stays}
+use Rattle.callers.specs.Goes.{_then_, from-four}
 use Rattle.callers.specs.Xdwrites.{XdwriteByte, together-not}
 
 -- the 10-byte ones
@@ -91,14 +92,14 @@ module _ (m : List ℕ) (g : Geometry) (a t : ℕ) (h : Target m g a t) (b : ℕ
     ten-idle Unknown i = absurd i
 
     pub idle-does : (o : Op) → Idles o → Does m a (cdbOf (tenSaying o flags b 0)) [] r 0 m r
-    idle-does o i = stays m g a t h (cdbOf (k o)) [] r 6 (Cdb 7) (ten-idle o i)
+    idle-does o i = stopped m a (cdbOf (k o)) [] r 6 (Cdb 7) Good _ (ten-idle o i) refl
 
   -- XDWRITE, to be retained or with a secondary address that is not the target's
   pub xdwrite-idle : (flags mirror ndisc sec : ℕ) → XdwriteByte flags mirror ndisc sec → (a′ c : ℕ) → a′ < 16777216 → c < 4294967296
       → (sec ≡ 3) ⊎ (Together sec × (ndisc ≡ 0) × (isAt t (driveOf m g a′) ≡ false)) → Does m a (xdwriteCdb flags b 0 a′ c) [] r 0 m r
   xdwrite-idle flags mirror ndisc sec z a′ c small high e =
       let k = sixteenSaying XdWrite flags b 0 a′ c in
-      stays m g a t h (cdbOf k) [] r 6 (Cdb 6)
+      stopped m a (cdbOf k) [] r 6 (Cdb 6) Good _
       (from-four m g a t h (cdbOf k) [] r XdWrite k (xdwrite-says flags b 0 a′ c low (omega arith) small high)
       ∙ at-six (Cdb 6) XdWrite k
       (ap (λ (x : ℕ). not (eqb x 0)) (z .no-other)
@@ -109,4 +110,4 @@ module _ (m : List ℕ) (g : Geometry) (a t : ℕ) (h : Target m g a t) (b : ℕ
       then (ap (λ (x : ℕ). not (eqb x 3) && isAt t (driveOf m g a′)) (z .sec-is) ∙ spared sec (isAt t (driveOf m g a′)) (⊎-map (λ q. q) (λ q. q .2) e))
       then refl
       then ap not (eq-eqb 0 (0 * g .l) (omega arith))
-      then tt))
+      then tt)) refl

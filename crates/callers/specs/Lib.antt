@@ -1,5 +1,4 @@
 pub mod Bytes
-pub mod Each
 pub mod Lists
 pub mod Does
 pub mod Goes

@@ -1,7 +1,7 @@
 -- What REBUILD and REGENERATE have in common: the checks of byte 1, of the list and of its sources pass. Assumes nothing.
 use Prim.Native.Nat.{ℕ, _+_, _*_, _/_, _%_, _≤_, _<_}
 use native.Mathlib.Omega.{arith}
-use mathlib.Core.Bool.{Bool, true, false, not, cond}
+use mathlib.Core.Bool.{Bool, false, not, cond}
 use mathlib.Core.Path.{_≡_, refl, sym, ap, ap₂, _∙_}
 use mathlib.Core.Logic.{_⊎_, inl, inr}
 use mathlib.Core.List.{List, _∷_, _++_}
@@ -10,13 +10,16 @@ use lib.Dec.{ltb, eqb, lit≤}
 use lib.ListN.{length, getD}
 use borrow.Author.Tests.{le-ltb, lt-leb, eq-eqb, ne-eqb}
 use Rattle.rules.specs.declared.Found.{Found}
-use Rattle.rules.specs.Rule.{rule, AllPass, pass-append}
+use Rattle.rules.specs.Each.{each-append}
+use Rattle.rules.specs.Rule.{rule, applies, AllPass}
 use Rattle.geometry.specs.declared.Geometry.{Geometry}
 use Rattle.sense.specs.declared.Answer.the-variants.{BadField, WrongCount}
 use Rattle.command.specs.declared.Op.{Op}
 use Rattle.command.specs.declared.Op.the-variants.{Rebuild}
 use Rattle.command.specs.declared.Command.{Command}
 use Rattle.command.specs.Command.{zeroBits, ownOf, resolvedOf, resolvedCount, listBytes}
+use Rattle.command.specs.Length.{resolved-same}
+use Rattle.command.specs.Sent.{sent-exact}
 use Rattle.meaning.specs.declared.Span.{Span}
 use Rattle.meaning.specs.declared.Seen.the-variants.{Dash, Cdb, List as InList}
 use Rattle.meaning.specs.Sources.{ownEntry, firstBad}
@@ -51,14 +54,9 @@ pub record Resolves (B b n count : ℕ) : Type 0 where
 
 pub resolves : (B b n count : ℕ) → 1 ≤ n → b + n ≤ B → B ≤ 65536 → HowLong B b n count → Resolves B b n count
 resolves B b n count some inside most (inl e) =
-    rw e (record { small = omega arith; some = some; is = rw (ne-eqb n 0xFFFFFFFF (λ q. omega arith)) })
+    rw e (record { small = omega arith; some = some; is = resolved-same n b B (λ q. omega arith) })
 resolves B b n count some inside most (inr (e, whole)) =
     rw e (record { small = lit≤ tt; some = lit≤ tt; is = rw (lt-leb B b (omega arith)) (omega arith) })
-
--- what is sent behind a list of so many bytes, where with Int Data the length is n
-either-data : (u : Bool) (list count n L : ℕ) → (u ≡ false → count ≡ n) → cond u list (list + count * L) ≡ list + cond u 0 (n * L)
-either-data true list count n L h = omega arith
-either-data false list count n L h = ap (λ (x : ℕ). list + x * L) (h refl)
 
 -- n blocks from block b on, of so many sources; count is the length in the CDB, which with Int Data is n itself
 module _ (m : List ℕ) (g : Geometry) (t b n count sources flags int : ℕ) (s : List ℕ)
@@ -74,9 +72,10 @@ module _ (m : List ℕ) (g : Geometry) (t b n count sources flags int : ℕ) (s 
 
   -- "list length plus, with Int Data, length*L"
   sends-is : listBytes k (g .l) ≡ length s
-  unfolding listBytes
   sends-is =
-      rw (ne-eqb (8 + 8 * sources) 0 (λ e. omega arith), z .int-is) (either-data (eqb int 0) (8 + 8 * sources) count n (g .l) with) ∙ sym (v .exact)
+      sent-exact k (g .l) sources n (listBytes k (g .l)) refl (λ e. omega arith) refl (λ e. sym (with (ap (λ (x : ℕ). eqb x 0) (sym (z .int-is)) ∙ e)))
+      ∙ ap (λ (x : ℕ). 8 + 8 * sources + cond (eqb x 0) 0 (n * g .l)) (z .int-is)
+      ∙ sym (v .exact)
 
   -- every check, with one more of byte 2 and others in place of check 9
   pub all-pass : (u : Bool) (ys : List Check) → u ≡ false → AllPass ys
@@ -102,6 +101,6 @@ module _ (m : List ℕ) (g : Geometry) (t b n count sources flags int : ℕ) (s 
       ∙ ap (λ (x : Found). not (isNothing x)) (no-own m g (blocks t b n) s sources (v .each)))
       then ne-eqb count 0 (λ e. omega (arith, q .some))
       then (ap (λ (x : Span). ltb (g .b) (x .block .0 + x .count)) span-is ∙ le-ltb (g .b) (b + n) (w .range .range-in))
-      then pass-append ys (sourceRules (firstBad m g s (resolved g k s .count) 0 (getD s 0 0))) free
+      then each-append (λ (x : Check). applies x ≡ false) ys (sourceRules (firstBad m g s (resolved g k s .count) 0 (getD s 0 0))) free
       (ap₂ (λ (x : Span) (y : ℕ). isFault (firstBad m g s (x .count) 0 y)) span-is (hd .number)
       ∙ ap isFault (all-clear m g (blocks t b n) s sources (v .each)) then tt)

@@ -3,7 +3,6 @@
 use Prim.Native.Nat.{ℕ, _*_, _<_}
 use native.Mathlib.Omega.{arith}
 use mathlib.Core.Path.{_≡_, refl, sym, ap, subst, _∙_}
-use mathlib.Core.Logic.{inl}
 use mathlib.Core.List.{List, []}
 use lib.ListN.{length}
 use Rattle.octets.specs.Part.{part}
@@ -11,19 +10,15 @@ use Rattle.octets.specs.Put.{put}
 use Rattle.octets.specs.PutPut.{part-put}
 use Rattle.geometry.specs.declared.Geometry.{Geometry}
 use Rattle.geometry.specs.Header.{place}
-use Rattle.geometry.specs.Frame.{Placed}
-use Rattle.geometry.specs.Places.{place-after-media, range-room}
+use Rattle.geometry.specs.Places.{range-room}
 use Rattle.drives.specs.Front.{SameFront, failed-same, drive-same}
 use Rattle.drives.specs.Lookup.{drive-inside}
 use Rattle.image.specs.Shelf.{Shelf, shelf-frame}
-use Rattle.meaning.specs.declared.Span.{Span}
-use Rattle.meaning.specs.declared.Act.{Act}
-use Rattle.meaning.specs.declared.Act.the-variants.{Read, Write, XpWrite, XdRead, Couple, Retain, Rebuild, Regenerate}
 use Rattle.meaning.specs.declared.Decision.{Decision}
 use Rattle.meaning.specs.declared.Decision.the-variants.{Stop, Go}
 use Rattle.meaning.specs.Step.{decided, imageAfter, stepImage}
 use Rattle.meaning.specs.Allowed.{Blocks, Filled, Roomy}
-use Rattle.demands.specs.Beside.{Clear, Beside}
+use Rattle.demands.specs.Beside.{Beside, front-beside}
 use Rattle.demands.specs.Step.{step-shelf, step-beside}
 use Rattle.callers.specs.Bytes.{readCdb, writeCdb}
 use Rattle.callers.specs.Does.{blocks, Does, Target}
@@ -31,20 +26,6 @@ use Rattle.callers.specs.Reads.{read-does}
 use Rattle.callers.specs.Writes.{write-does}
 
 -- ---- the image up to the slots
-
-module _ (g : Geometry) (p : Placed g) where
-  before : (x : Span) → Clear g x 0 (g .slots)
-  before x = inl (omega (arith, place-after-media g (x .drive) (x .block .0), p .slots-is, p .media-is))
-
-  front-beside : (act : Act) → Beside g act 0 (g .slots)
-  front-beside (Read x) = tt
-  front-beside (Write x) = before x
-  front-beside (XpWrite x) = before x
-  front-beside (XdRead x i) = inl (omega arith)
-  front-beside (Couple x y mirror) = (before x, before y)
-  front-beside (Retain x i mirror ndisc) = (inl (omega arith), λ e. before x)
-  front-beside (Rebuild x n int) = before x
-  front-beside (Regenerate x n int i) = inl (omega arith)
 
 -- any step leaves header and drive table
 pub step-front : (m : List ℕ) (a : ℕ) (c s r : List ℕ) (g : Geometry) → Shelf m g → SameFront (stepImage m a c s r) m g
@@ -63,9 +44,9 @@ module _ (m : List ℕ) (g : Geometry) (a : ℕ) (c s r : List ℕ) (n : ℕ) (m
   pub next : (e t : ℕ) → Target m g e t → Target m′ g e t
   next e t h =
       let p = shelf-frame m g (h .shelf) .placed in
-      let f : SameFront m′ m g = subst (λ (x : List ℕ). SameFront x m g) (d .image) (step-front m a c s r g (h .shelf)) in
+      let f : SameFront m′ m g = subst (λ (x : List ℕ). SameFront x m g) (sym (d .image)) (step-front m a c s r g (h .shelf)) in
       record {
-        shelf = subst (λ (x : List ℕ). Shelf x g) (d .image) (step-shelf m a c s r g (h .shelf));
+        shelf = subst (λ (x : List ℕ). Shelf x g) (sym (d .image)) (step-shelf m a c s r g (h .shelf));
         found = drive-same m′ m g p f e ∙ h .found;
         present = failed-same m′ m g p f t (drive-inside m g e t (h .found) .0) ∙ h .present;
       }

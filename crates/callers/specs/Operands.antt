@@ -12,38 +12,32 @@ use Rattle.octets.specs.Part.{part}
 use Rattle.octets.specs.Put.{put}
 use Rattle.octets.specs.Xor.{_⊻_}
 use Rattle.octets.specs.Operands.{xorAll}
-use Rattle.rules.specs.Least.{index}
+use Rattle.rules.specs.Each.{EachIs}
 use Rattle.geometry.specs.declared.Geometry.{Geometry}
 use Rattle.geometry.specs.Header.{place}
-use Rattle.drives.specs.Table.{driveOf}
 use Rattle.image.specs.Shelf.{shelf-frame}
 use Rattle.command.specs.declared.Source.{Source}
 use Rattle.command.specs.Command.{sourceOf}
-use Rattle.meaning.specs.Acts.{stored, keeping, sourcesFrom, gathered}
+use Rattle.meaning.specs.Acts.{stored, slotStores, namedBlocks, sourcesFrom, gathered}
 use Rattle.meaning.specs.Allowed.{Blocks, Limited, Free}
 use Rattle.callers.specs.Bytes.{rebuildCdb, regenerateCdb}
-use Rattle.callers.specs.Each.{EachIs}
 use Rattle.callers.specs.Lists.{source, listOf, list-headed, list-data}
 use Rattle.callers.specs.Does.{blocks, Does, Target}
 use Rattle.callers.specs.Sources.{Names, read-as, list-sourced}
 use Rattle.callers.specs.Listed.{ListByte, HowLong}
 use Rattle.callers.specs.Rebuilds.{rebuild-does, regenerate-does}
 
--- the n blocks that a source names
-abbrev pub named : List ℕ → Geometry → ℕ → Source → List ℕ
-named m g n e = part m (place g (index (driveOf m g (e .address .0))) (e .block .0)) (n * g .l)
-
 -- the operands: the sources' blocks, and with Int Data the data d
 abbrev pub operands : List ℕ → Geometry → ℕ → List Source → ℕ → List ℕ → List (List ℕ)
-operands m g n es int d = map (named m g n) es ++ cond (eqb int 0) [] (d ∷ [])
+operands m g n es int d = map (namedBlocks m g n) es ++ cond (eqb int 0) [] (d ∷ [])
 
 from-sources : (m : List ℕ) (g : Geometry) (n : ℕ) (s : List ℕ) (es : List Source) (i : ℕ)
-    → ((j : ℕ) → j < length es → sourceOf s (i + j) ≡ getD es j (source 0 0)) → sourcesFrom m g s n i (length es) ≡ map (named m g n) es
+    → ((j : ℕ) → j < length es → sourceOf s (i + j) ≡ getD es j (source 0 0)) → sourcesFrom m g s n i (length es) ≡ map (namedBlocks m g n) es
 unfolding sourcesFrom
 from-sources m g n s [] i h = refl
 from-sources m g n s (e ∷ es) i h =
     ap₂ (λ (x : List ℕ) (xs : List (List ℕ)). x ∷ xs)
-    (ap (named m g n) (ap (sourceOf s) (sym (add-zero i)) ∙ h 0 (omega arith)))
+    (ap (namedBlocks m g n) (ap (sourceOf s) (sym (add-zero i)) ∙ h 0 (omega arith)))
     (from-sources m g n s es (i + 1) (λ j l. let e : i + 1 + j ≡ i + suc j = omega arith in rw e (h (suc j) (omega arith))))
 
 module _ (m : List ℕ) (g : Geometry) (a t : ℕ) (h : Target m g a t) (b n : ℕ) (es : List Source) (int : ℕ) (d : List ℕ)
@@ -76,9 +70,9 @@ module _ (m : List ℕ) (g : Geometry) (a t : ℕ) (h : Target m g a t) (b n : �
     -- REGENERATE: the XOR of the target's own blocks and the operands is retained in slot i
     pub regenerate-lists : Limited g (blocks t b n) → (i : ℕ) → Free m g i
         → Does m a (regenerateCdb flags n (length es)) (listOf b es d) r 0
-        (stored m (keeping m g i 2 (blocks t b n) (part m (place g t b) (n * g .l) ⊻ xorAll (operands m g n es int d)))) r
+        (stored m (slotStores m g i 2 (blocks t b n) (part m (place g t b) (n * g .l) ⊻ xorAll (operands m g n es int d)))) r
     regenerate-lists most i v =
         subst (λ (x : List ℕ). Does m a (regenerateCdb flags n (length es)) (listOf b es d) r 0
-        (stored m (keeping m g i 2 (blocks t b n) (part m (place g t b) (n * g .l) ⊻ x))) r) gathered-is
+        (stored m (slotStores m g i 2 (blocks t b n) (part m (place g t b) (n * g .l) ⊻ x))) r) gathered-is
         (regenerate-does m g a t h b n (length es) flags int (listOf b es d) r z (list-headed b es d small) few w
         (list-sourced m g (h .shelf) (blocks t b n) b es d each int one long) most i v)

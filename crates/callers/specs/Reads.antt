@@ -16,11 +16,10 @@ use Rattle.rules.specs.Least.{index}
 use Rattle.geometry.specs.declared.Geometry.{Geometry}
 use Rattle.geometry.specs.Header.{dataAt, place}
 use Rattle.geometry.specs.Frame.{Framed}
-use Rattle.geometry.specs.Places.{range-room, slot-room, data-ends}
+use Rattle.geometry.specs.Places.{range-long, data-in}
 use Rattle.slots.specs.Record.{slotOf}
-use Rattle.slots.specs.Facts.{used-facts, right}
 use Rattle.slots.specs.Change.{released}
-use Rattle.results.specs.Best.{newest-at}
+use Rattle.results.specs.Best.{newest-at, newest-used}
 use Rattle.image.specs.Shelf.{shelf-frame}
 use Rattle.command.specs.declared.Op.the-variants.{Read, XdRead}
 use Rattle.meaning.specs.declared.Act.the-variants.{Read as ToRead, XdRead as ToXdRead}
@@ -42,7 +41,7 @@ module _ (m : List ℕ) (g : Geometry) (a t : ℕ) (h : Target m g a t) (b n : �
   read-does flags z small w =
       let most = f .placed .ranges .b-high in
       subst (λ (j : ℕ). Does m a (readCdb flags b n) [] r j m (put r 0 (part m (place g t b) (n * g .l))))
-      (length-part m (place g t b) (n * g .l) (range-room m g t b n f (w .range)))
+      (range-long m g t b n f (w .range))
       (does m g a t h (readCdb flags b n) [] r Read (tenSaying Read flags b n) (ToRead (blocks t b n))
       (ten-says Read flags b n tt (omega (arith, w .range .range-in)) small)
       (ap (λ (x : ℕ). not (eqb x 0)) z
@@ -62,10 +61,10 @@ module _ (m : List ℕ) (g : Geometry) (a t : ℕ) (h : Target m g a t) (b n : �
       let most = f .placed .ranges .b-high in
       let small = f .placed .ranges .m-high in
       let q = newest-at m g t b i (w .answers) in
-      let u = used-facts g _ (slotOf m g i) (holds _ 0 (q .asked)) (right m g (h .shelf .slots-ok) .ok i (q .inside)) in
+      let u = newest-used m g t b (h .shelf .slots-ok) i q in
       let at : (slotOf m g i .block .0) ≡ b = eqb-true _ _ (holds _ 2 (q .asked)) in
       subst (λ (j : ℕ). Does m a (xdreadCdb b n) [] r j (released m g i) (put r 0 (part m (dataAt g i) (n * g .l))))
-      (length-part m (dataAt g i) (n * g .l) (omega (arith, data-ends g i n (w .limited), slot-room m g i f (w .slot-in))))
+      (length-part m (dataAt g i) (n * g .l) (data-in m g i n f (w .slot-in) (w .limited)))
       (does m g a t h (xdreadCdb b n) [] r XdRead (tenSaying XdRead 0 b n) (ToXdRead (blocks t b n) i)
       (ten-says XdRead 0 b n tt (omega (arith, u .range-in)) (omega (arith, w .limited)))
       (refl

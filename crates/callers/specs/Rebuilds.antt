@@ -21,7 +21,7 @@ use Rattle.command.specs.declared.Op.the-variants.{Rebuild, Regenerate}
 use Rattle.meaning.specs.declared.Span.{Span}
 use Rattle.meaning.specs.declared.Act.the-variants.{Rebuild as ToRebuild, Regenerate as ToRegenerate}
 use Rattle.meaning.specs.declared.Decision.the-variants.{Go}
-use Rattle.meaning.specs.Acts.{stored, keeping, gathered}
+use Rattle.meaning.specs.Acts.{stored, slotStores, gathered}
 use Rattle.meaning.specs.Checks.{isNothing, busy}
 use Rattle.meaning.specs.Allowed.{Blocks, Sourced, Limited, Free}
 use Rattle.callers.specs.Bytes.{listedSaying, rebuildCdb, regenerateCdb, rebuild-says, regenerate-says}
@@ -62,7 +62,7 @@ module _ (m : List ℕ) (g : Geometry) (a t : ℕ) (h : Target m g a t) (b n sou
   -- REGENERATE: that and the target's own blocks, XORed, are retained in slot i
   pub regenerate-does : Limited g (blocks t b n) → (i : ℕ) → Free m g i
       → Does m a (regenerateCdb flags n sources) s r 0
-      (stored m (keeping m g i 2 (blocks t b n) (part m (place g t b) (n * g .l) ⊻ gathered m g s n sources int))) r
+      (stored m (slotStores m g i 2 (blocks t b n) (part m (place g t b) (n * g .l) ⊻ gathered m g s n sources int))) r
   regenerate-does small i u =
       let q = resolves (g .b) b n n (w .some) (w .range .range-in) most (inl refl) in
       let e : (eqb int 0 ≡ false → n ≡ n) = (λ x. refl) in

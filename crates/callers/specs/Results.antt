@@ -11,14 +11,10 @@ use Rattle.octets.specs.Put.{put}
 use Rattle.octets.specs.Xor.{_⊻_}
 use Rattle.rules.specs.declared.Found.{Found}
 use Rattle.rules.specs.declared.Found.the-variants.{At, Nothing}
-use Rattle.rules.specs.Every.{holds}
 use Rattle.geometry.specs.declared.Geometry.{Geometry}
 use Rattle.geometry.specs.Header.{dataAt, place}
-use Rattle.slots.specs.Record.{slotOf}
 use Rattle.slots.specs.Find.{emptySlot, newestOf}
-use Rattle.slots.specs.Facts.{used-facts, right, empty-inside}
 use Rattle.slots.specs.Change.{released}
-use Rattle.results.specs.Best.{newest-at}
 use Rattle.results.specs.First.{firstOf, sansFirst}
 use Rattle.results.specs.Full.{full}
 use Rattle.results.specs.Newest.{answers, newest-result, newest-missing, newest-goes}
@@ -26,8 +22,9 @@ use Rattle.results.specs.Results.{Result, results, resultAt}
 use Rattle.image.specs.Shelf.{Shelf, shelf-frame}
 use Rattle.meaning.specs.declared.Span.{Span}
 use Rattle.meaning.specs.declared.Act.the-variants.{Retain, Regenerate}
-use Rattle.meaning.specs.Acts.{stored, resultOf, keeping, written, gathered}
-use Rattle.meaning.specs.Allowed.{Blocks, Filled, Roomy, Limited, Held, Free, Sourced}
+use Rattle.meaning.specs.Acts.{stored, resultOf, slotStores, dataStores, gathered}
+use Rattle.meaning.specs.Allowed.{Blocks, Filled, Roomy, Limited, Held, Free, empty-free, Sourced}
+use Rattle.licence.specs.Each.{held-at}
 use Rattle.demands.specs.Leaves.{resultIn}
 use Rattle.demands.specs.Retained.{results-after}
 use Rattle.callers.specs.Bytes.{xdreadCdb, xdwriteCdb, regenerateCdb}
@@ -48,7 +45,7 @@ pub free-left : (m : List ℕ) (g : Geometry) → Shelf m g → length (results 
 free-left m g h l = by (emptySlot m g) refl
   where
     by : (o : Found) → emptySlot m g ≡ o → FreeSlot m g
-    by (At i) e = let w = empty-inside m g i e in record { slot = i; free = record { takes = e; slot-in = w .0; unused = w .1 } }
+    by (At i) e = record { slot = i; free = empty-free m g i e }
     by Nothing e = absurd (omega (arith, full m g (h .slots-ok) e))
 
 -- the call leaves what `after` says for some slot, and z in front of the results
@@ -71,7 +68,7 @@ module _ (m : List ℕ) (g : Geometry) (a t : ℕ) (h : Target m g a t) (b n : �
     res = resultOf m g x mirror s
 
     pub xdwrite-retains : Filled g x s → (flags : ℕ) → XdwriteByte flags mirror ndisc 3 → (a′ c : ℕ) → a′ < 16777216 → c < 4294967296
-        → Retains m g a (xdwriteCdb flags b n a′ c) s r (λ i. stored m (written g x ndisc s ++ keeping m g i 1 x res)) (resultIn 1 x res)
+        → Retains m g a (xdwriteCdb flags b n a′ c) s r (λ i. stored m (dataStores g x ndisc s ++ slotStores m g i 1 x res)) (resultIn 1 x res)
     xdwrite-retains e flags z a′ c la lc =
         record {
           slot = f .slot;
@@ -85,7 +82,7 @@ module _ (m : List ℕ) (g : Geometry) (a t : ℕ) (h : Target m g a t) (b n : �
     sum = part m (place g t b) (n * g .l) ⊻ gathered m g s n sources int
 
     pub regenerate-retains : ListByte flags int → Headed s sources b → sources < 256 → Sourced m g x sources int s
-        → Retains m g a (regenerateCdb flags n sources) s r (λ i. stored m (keeping m g i 2 x sum)) (resultIn 2 x sum)
+        → Retains m g a (regenerateCdb flags n sources) s r (λ i. stored m (slotStores m g i 2 x sum)) (resultIn 2 x sum)
     regenerate-retains z hd few v =
         record {
           slot = f .slot;
@@ -107,11 +104,8 @@ module _ (m : List ℕ) (g : Geometry) (t b : ℕ) (z : Result) where
     where
       by : (o : Found) → newestOf m g t b ≡ o → HeldSlot
       by (At i) e =
-          let n = newest-at m g t b i e in
-          let u = used-facts g _ (slotOf m g i) (holds _ 0 (n .asked)) (right m g (h .slots-ok) .ok i (n .inside)) in
           let s : resultAt m g i ≡ z = Option·some-injective (resultAt m g i) z (sym (newest-result m g (h .slots-ok) t b i e) ∙ q) in
-          let l : slotOf m g i .len ≡ z .len = ap (λ (x : Result). x .len) s in
-          record { slot = i; held = record { answers = e; slot-in = n .inside; same-len = l; limited = omega (arith, u .len-high) }; its = s }
+          record { slot = i; held = held-at m g h (blocks t b (z .len)) i e (ap (λ (x : Result). x .len) s); its = s }
       by Nothing e = absurd (Option·none-ne-some z (sym (newest-missing m g (h .slots-ok) t b e) ∙ q))
 
 -- XDREAD hands out the result z, and it alone is no longer retained

@@ -2,17 +2,18 @@
 use Prim.Native.Nat.{ℕ, zero, suc, _+_, _*_, _≤_, _<_}
 use native.Mathlib.Omega.{arith}
 use mathlib.Core.Bool.{false, cond}
-use mathlib.Core.Path.{_≡_, refl, ap, ap₂, _∙_}
+use mathlib.Core.Path.{_≡_, refl, sym, ap, ap₂, subst, _∙_}
 use mathlib.Core.List.{List}
 use lib.Dec.{eqb}
 use lib.ListN.{length, getD}
 use borrow.Author.Tests.{le-ltb, ne-eqb}
 use Rattle.octets.specs.Octets.{Octets}
-use Rattle.rules.specs.declared.Found.the-variants.{At, Nothing}
+use Rattle.rules.specs.declared.Found.the-variants.{Nothing}
+use Rattle.rules.specs.Each.{EachIs, each-at}
 use Rattle.rules.specs.Least.{least-none}
 use Rattle.geometry.specs.declared.Geometry.{Geometry}
 use Rattle.geometry.specs.Places.{Range}
-use Rattle.drives.specs.Table.{addressOf, driveOf, failed}
+use Rattle.drives.specs.Table.{addressOf, failed}
 use Rattle.drives.specs.Facts.{table-addresses, address-lt}
 use Rattle.drives.specs.Lookup.{drive-found}
 use Rattle.image.specs.Shelf.{Shelf, shelf-frame}
@@ -21,13 +22,12 @@ use Rattle.command.specs.Command.{sourceOf}
 use Rattle.meaning.specs.declared.Span.{Span}
 use Rattle.meaning.specs.declared.Fault.the-variants.{Clear}
 use Rattle.meaning.specs.Sources.{isAt, ownEntry, driveBad, entryBad, orNext, firstBad}
-use Rattle.meaning.specs.Allowed.{Entry, Sourced}
-use Rattle.callers.specs.Each.{EachIs, each-at}
+use Rattle.meaning.specs.Allowed.{NamesOther, Sourced}
 use Rattle.callers.specs.Lists.{source, listOf, list-long, list-source}
 
 -- ---- entries that pass
 
-module _ (m : List ℕ) (g : Geometry) (x : Span) (s : List ℕ) (n : ℕ) (each : (i : ℕ) → i < n → Entry m g x s i) where
+module _ (m : List ℕ) (g : Geometry) (x : Span) (s : List ℕ) (n : ℕ) (each : (i : ℕ) → i < n → NamesOther m g x (sourceOf s i)) where
   -- none is the target
   pub no-own : ownEntry m g s n (x .drive) ≡ Nothing
   unfolding ownEntry
@@ -51,14 +51,10 @@ module _ (m : List ℕ) (g : Geometry) (x : Span) (s : List ℕ) (n : ℕ) (each
 
 -- ---- sources as a caller has them
 
--- the source e names blocks of another present drive
+-- the source e names blocks of another present drive, by an address of four bytes
 pub record Names (m : List ℕ) (g : Geometry) (x : Span) (e : Source) : Type 0 where
-  pub drive : ℕ
-  pub found : driveOf m g (e .address .0) ≡ At drive
+  pub there : NamesOther m g x e
   pub small : e .address .0 < 4294967296
-  pub range : Range g drive (e .block .0) (x .count)
-  pub present : failed m g drive ≡ false
-  pub other : drive ≡ x .drive → ⊥
 
 -- drive e's blocks from block b on, as a source
 abbrev pub sourceAt : List ℕ → Geometry → ℕ → ℕ → Source
@@ -70,12 +66,8 @@ pub names-drive : (m : List ℕ) (g : Geometry) → Shelf m g → Octets m → (
     → Names m g x (sourceAt m g b e)
 names-drive m g h o x b e r up other =
     record {
-      drive = e;
-      found = drive-found m g (table-addresses m g (h .table-ok)) e (r .drive-in);
+      there = record { drive = e; found = drive-found m g (table-addresses m g (h .table-ok)) e (r .drive-in); range = r; present = up; other = other };
       small = omega (arith, address-lt m g (shelf-frame m g h) o e (r .drive-in));
-      range = r;
-      present = up;
-      other = other;
     }
 
 module _ (m : List ℕ) (g : Geometry) (h : Shelf m g) (x : Span) (b : ℕ) (es : List Source) (d : List ℕ)
@@ -88,20 +80,13 @@ module _ (m : List ℕ) (g : Geometry) (h : Shelf m g) (x : Span) (b : ℕ) (es 
   read-as i l =
       let e = names i l in
       list-source b es d i l
-      (record { address-small = e .small; block-small = omega (arith, e .range .range-in, shelf-frame m g h .placed .ranges .b-high) })
-
-  entry : (i : ℕ) → i < length es → Entry m g x (listOf b es d) i
-  entry i l =
-      let e = names i l in
-      let q = read-as i l in
-      record {
-        drive = e .drive;
-        found = ap (λ (z : Source). driveOf m g (z .address .0)) q ∙ e .found;
-        range = rw q (e .range);
-        present = e .present;
-        other = e .other;
-      }
+      (record { address-small = e .small; block-small = omega (arith, e .there .range .range-in, shelf-frame m g h .placed .ranges .b-high) })
 
   -- the sources of a list that was written so
   pub list-sourced : (int : ℕ) → 1 ≤ length es → length d ≡ cond (eqb int 0) 0 (x .count * g .l) → Sourced m g x (length es) int (listOf b es d)
-  list-sourced int one long = record { some-source = one; exact = omega (arith, list-long b es d); each = entry }
+  list-sourced int one long =
+      record {
+        some-source = one;
+        exact = omega (arith, list-long b es d);
+        each = λ i l. subst (NamesOther m g x) (sym (read-as i l)) (names i l .there);
+      }

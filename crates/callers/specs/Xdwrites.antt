@@ -26,7 +26,7 @@ use Rattle.command.specs.declared.Op.the-variants.{XdWrite}
 use Rattle.meaning.specs.declared.Act.the-variants.{Couple, Retain}
 use Rattle.meaning.specs.declared.Decision.the-variants.{Go}
 use Rattle.meaning.specs.Sources.{isAt}
-use Rattle.meaning.specs.Acts.{stored, coupled, keeping, written, resultOf}
+use Rattle.meaning.specs.Acts.{stored, coupled, slotStores, dataStores, resultOf}
 use Rattle.meaning.specs.Checks.{isNothing}
 use Rattle.meaning.specs.Allowed.{Blocks, Filled, Limited, Free}
 use Rattle.callers.specs.Bytes.{Together, sixteenSaying, xdwriteCdb, xdwrite-says}
@@ -104,7 +104,7 @@ module _ (m : List ℕ) (g : Geometry) (a t : ℕ) (h : Target m g a t) (b n : �
 
   pub retained-does : (flags mirror ndisc : ℕ) → XdwriteByte flags mirror ndisc 3 → (a′ c : ℕ) → a′ < 16777216 → c < 4294967296 → (i : ℕ) → Free m g i
       → Does m a (xdwriteCdb flags b n a′ c) s r 0
-      (stored m (written g (blocks t b n) ndisc s ++ keeping m g i 1 (blocks t b n) (resultOf m g (blocks t b n) mirror s))) r
+      (stored m (dataStores g (blocks t b n) ndisc s ++ slotStores m g i 1 (blocks t b n) (resultOf m g (blocks t b n) mirror s))) r
   retained-does flags mirror ndisc z a′ c la lc i v =
       let three : eqb (flags / 2 % 4) 3 ≡ true = ap (λ (x : ℕ). eqb x 3) (z .sec-is) in
       let spared : (x : Bool) → (not (eqb (flags / 2 % 4) 3) && x) ≡ false = (λ x. ap (λ (y : Bool). not y && x) three) in
@@ -132,5 +132,5 @@ module _ (m : List ℕ) (g : Geometry) (a t : ℕ) (h : Target m g a t) (b n : �
   -- without Mirror and NDisc
   pub retained-xors : (flags : ℕ) → XdwriteByte flags 0 0 3 → (a′ c : ℕ) → a′ < 16777216 → c < 4294967296 → (i : ℕ) → Free m g i
       → Does m a (xdwriteCdb flags b n a′ c) s r 0
-      (stored (put m (place g t b) s) (keeping m g i 1 (blocks t b n) (s ⊻ part m (place g t b) (n * g .l)))) r
+      (stored (put m (place g t b) s) (slotStores m g i 1 (blocks t b n) (s ⊻ part m (place g t b) (n * g .l)))) r
   retained-xors flags z a′ c la lc i v = retained-does flags 0 0 z a′ c la lc i v

@@ -4,41 +4,26 @@ use mathlib.Core.Bool.{Bool, cond, _&&_}
 use mathlib.Core.List.{List, [], _∷_, _++_}
 use lib.Dec.{eqb, ltb}
 use lib.ListN.{length, getD}
-use Rattle.octets.specs.Put.{put}
-use Rattle.sense.specs.declared.Answer.the-variants.{ShortRoom}
+use Rattle.rules.specs.Same.{sameList}
 use Rattle.sense.specs.Answers.{numberOf}
-use Rattle.meaning.specs.Step.{stepImage, stepRoom, stepOutcome, resetAnswer, resetImage, markAnswer, markImage}
-use Rattle.shelf_c.specs.Interface.{short}
+use Rattle.meaning.specs.Step.{stepOutcome, resetAnswer, resetImage, markAnswer, markImage}
+use Rattle.shelf_c.specs.Interface.{stepNumber, imageLeft, roomLeft, senseLeft}
 use Rattle.text.specs.Ascii.{ascii}
 use Rattle.text.specs.Decimal.{decimal}
-use Rattle.words.specs.Words.{words, sameWord}
+use Rattle.words.specs.Words.{words}
 use Rattle.words.specs.Digits.{isBytes, isNumber, numberIn, unhex, wordOf}
 
 -- a space, and then the bytes, or `=` where they are the line's word w
-unfoldable pub shown : List ℕ → List ℕ → List ℕ
-shown w bs = ascii " " ++ cond (sameWord w (wordOf bs)) (ascii "=") (wordOf bs)
+unfoldable pub shownText : List ℕ → List ℕ → List ℕ
+shownText w bs = ascii " " ++ cond (sameList w (wordOf bs)) (ascii "=") (wordOf bs)
 
 -- the count k, or `-` where the sense room is n bytes and too short for the call to write one
 unfoldable pub countText : ℕ → ℕ → List ℕ
 countText n k = cond (ltb n 37) (ascii "-") (decimal k)
 
--- of a step, by image, target, CDB, data, room and sense room: what it answers and leaves
-module _ (m : List ℕ) (a : ℕ) (c s r n : List ℕ) where
-  abbrev pub stepNumber : ℕ
-  stepNumber = cond (short n) (numberOf ShortRoom) (numberOf (stepOutcome m a c s r .answer))
-
-  abbrev pub imageLeft : List ℕ
-  imageLeft = cond (short n) m (stepImage m a c s r)
-
-  abbrev pub roomLeft : List ℕ
-  roomLeft = cond (short n) r (stepRoom m a c s r)
-
-  abbrev pub senseLeft : List ℕ
-  senseLeft = cond (short n) n (put n 0 (stepOutcome m a c s r .sense .bytes))
-
 -- `NUMBER COUNT IMAGE ROOM SENSE`, of number x and count k, where the words m, r and n became the bytes m′, r′ and n′
 unfoldable pub leftText : ℕ → ℕ → List ℕ → List ℕ → List ℕ → List ℕ → List ℕ → List ℕ → List ℕ
-leftText x k m m′ r r′ n n′ = decimal x ++ ascii " " ++ countText (length n′) k ++ shown m m′ ++ shown r r′ ++ shown n n′
+leftText x k m m′ r r′ n n′ = decimal x ++ ascii " " ++ countText (length n′) k ++ shownText m m′ ++ shownText r r′ ++ shownText n n′
 
 -- of a step with target a, CDB c and data s, whose image, room and sense room are the words m, r and n
 unfoldable pub stepText : List ℕ → ℕ → List ℕ → List ℕ → List ℕ → List ℕ → List ℕ
@@ -54,10 +39,10 @@ stepText m a c s r n =
 
 -- `NUMBER IMAGE`
 unfoldable pub resetText : List ℕ → ℕ → List ℕ
-resetText m a = decimal (numberOf (resetAnswer (unhex m) a)) ++ shown m (resetImage (unhex m) a)
+resetText m a = decimal (numberOf (resetAnswer (unhex m) a)) ++ shownText m (resetImage (unhex m) a)
 
 unfoldable pub markText : List ℕ → ℕ → ℕ → List ℕ
-markText m a x = decimal (numberOf (markAnswer (unhex m) a x)) ++ shown m (markImage (unhex m) a x)
+markText m a x = decimal (numberOf (markAnswer (unhex m) a x)) ++ shownText m (markImage (unhex m) a x)
 
 abbrev pub badLine : List ℕ
 badLine = ascii "bad line"
@@ -94,9 +79,9 @@ markLine ws = cond (eqb (length ws) 3) (ofMark (word ws 0) (word ws 1) (word ws 
 unfoldable pub callLine : List (List ℕ) → List ℕ
 callLine [] = badLine
 callLine (op ∷ ws) =
-    cond (sameWord op (ascii "step")) (stepLine ws)
-    (cond (sameWord op (ascii "reset")) (resetLine ws)
-    (cond (sameWord op (ascii "mark")) (markLine ws)
+    cond (sameList op (ascii "step")) (stepLine ws)
+    (cond (sameList op (ascii "reset")) (resetLine ws)
+    (cond (sameList op (ascii "mark")) (markLine ws)
     badLine))
 
 -- the answer to a line, which has at most 65,536 bytes

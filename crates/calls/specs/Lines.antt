@@ -1,5 +1,5 @@
 -- As the code answers, line by line: what a call left, and lines that hold no call. Assumes nothing.
-use Prim.Native.Nat.{ℕ, _+_, _≤_}
+use Prim.Native.Nat.{ℕ, _≤_}
 use native.Mathlib.Omega.{arith}
 use mathlib.Core.Bool.{Bool, true, false, cond, _&&_, and-eq-true-iff}
 use mathlib.Core.List.{List, [], _∷_, _++_}
@@ -9,25 +9,26 @@ use lib.Dec.{eqb}
 use lib.ListN.{length}
 use borrow.Author.Tests.{ne-eqb}
 use Rattle.rules.specs.Cases.{either}
+use Rattle.rules.specs.Same.{sameList}
 use Rattle.sense.specs.Answers.{numberOf}
 use Rattle.meaning.specs.Step.{stepOutcome, resetAnswer, resetImage, markAnswer, markImage}
-use Rattle.shelf_c.specs.Interface.{StepCall}
+use Rattle.shelf_c.specs.Interface.{senseLeft, StepCall}
 use Rattle.text.specs.Ascii.{ascii}
 use Rattle.text.specs.Decimal.{decimal}
-use Rattle.words.specs.Words.{wordsFrom, words, sameWord}
+use Rattle.words.specs.Words.{wordsFrom, words}
 use Rattle.words.specs.Digits.{isBytes, isNumber, unhex}
-use Rattle.calls.specs.Answer.{shown, countText, senseLeft, leftText, stepText, resetText, markText, badLine, stepOk, stepLine, resetLine, markLine, callLine}
+use Rattle.calls.specs.Answer.{shownText, countText, leftText, stepText, resetText, markText, badLine, stepOk, stepLine, resetLine, markLine, callLine}
 use Rattle.calls.specs.Wrote.{count-told}
 
 -- ---- what a call left, where s is what the word m says
 
 pub reset-says : (m : List ℕ) (a x : ℕ) (s s′ : List ℕ) → s ≡ unhex m → x ≡ numberOf (resetAnswer s a) → s′ ≡ resetImage s a
-    → decimal x ++ shown m s′ ≡ resetText m a
+    → decimal x ++ shownText m s′ ≡ resetText m a
 unfolding resetText
 reset-says m a x s s′ e p q = rw (p, q, e)
 
 pub mark-says : (m : List ℕ) (a b x : ℕ) (s s′ : List ℕ) → s ≡ unhex m → x ≡ numberOf (markAnswer s a b) → s′ ≡ markImage s a b
-    → decimal x ++ shown m s′ ≡ markText m a b
+    → decimal x ++ shownText m s′ ≡ markText m a b
 unfolding markText
 mark-says m a b x s s′ e p q = rw (p, q, e)
 
@@ -84,7 +85,7 @@ mark-long m a x xs = rw (ne-eqb (length (m ∷ a ∷ x ∷ words xs)) 3 (λ e. l
 pub call-alone : (op : List ℕ) → callLine (op ∷ []) ≡ badLine
 unfolding callLine stepLine resetLine markLine
 call-alone op =
-    all (sameWord op (ascii "step")) (sameWord op (ascii "reset")) (sameWord op (ascii "mark"))
+    all (sameList op (ascii "step")) (sameList op (ascii "reset")) (sameList op (ascii "mark"))
   where
     all : (x y z : Bool) → cond x badLine (cond y badLine (cond z badLine badLine)) ≡ badLine
     all true y z = refl

@@ -9,18 +9,18 @@ use lib.Dec.{eqb, ltb}
 use lib.ListN.{length}
 use borrow.Author.Tests.{eqb-true, eqb-false, lt-ltb, le-ltb}
 use Rattle.rules.specs.Cases.{either, order}
+use Rattle.rules.specs.Same.{sameList}
 use Rattle.text.specs.Ascii.{ascii}
 use Rattle.text.specs.Decimal.{decimal, decimal-short}
 use Rattle.text.specs.Hexadecimal.{length-hexadecimal}
 use Rattle.text.specs.Room.{Wrote}
-use Rattle.words.specs.Words.{sameWord}
 use Rattle.words.specs.Digits.{isBytes, unhex, wordOf}
 use Rattle.words.specs.Unhex.{length-unhex, word-none, word-some}
-use Rattle.calls.specs.Answer.{shown, countText}
+use Rattle.calls.specs.Answer.{shownText, countText}
 
 -- xs at a room's front, with as much left of it as an answer may leave
-abbrev pub Says : List ℕ → ℕ → List ℕ → List ℕ → Type 0
-Says xs n before after = Wrote xs 0 n before after × (n ≤ 65560)
+abbrev pub Prints : List ℕ → ℕ → List ℕ → List ℕ → Type 0
+Prints xs n before after = Wrote xs 0 n before after × (n ≤ 65560)
 
 -- bs are the bytes that the word w says
 abbrev pub Holds : List ℕ → List ℕ → Type 0
@@ -44,12 +44,12 @@ word-short w bs h =
     (λ f. rw (word-some bs (eqb-false (length bs) 0 f), length-hexadecimal) (omega arith))
     (either (eqb (length bs) 0))
 
-pub shown-same : (w bs : List ℕ) → sameWord w (wordOf bs) ≡ true → shown w bs ≡ ascii " " ++ ascii "="
-unfolding shown
+pub shown-same : (w bs : List ℕ) → sameList w (wordOf bs) ≡ true → shownText w bs ≡ ascii " " ++ ascii "="
+unfolding shownText
 shown-same w bs t = rw t
 
-pub shown-new : (w bs : List ℕ) → sameWord w (wordOf bs) ≡ false → shown w bs ≡ ascii " " ++ wordOf bs
-unfolding shown
+pub shown-new : (w bs : List ℕ) → sameList w (wordOf bs) ≡ false → shownText w bs ≡ ascii " " ++ wordOf bs
+unfolding shownText
 shown-new w bs f = rw f
 
 pub shows : (w bs bs′ : List ℕ) → Holds w bs → length bs′ ≡ length bs → Shows w bs′
@@ -61,13 +61,13 @@ shows w bs bs′ h e = (h .0, e ∙ ap length (h .1) ∙ length-unhex w)
 pub ten-digits : (n : ℕ) → n < 4294967296 → length (decimal n) ≤ 10
 ten-digits n h = decimal-short 9 n (omega arith)
 
-pub count-none : (n k : ℕ) → n < 37 → countText n k ≡ ascii "-"
+pub count-dash : (n k : ℕ) → n < 37 → countText n k ≡ ascii "-"
 unfolding countText
-count-none n k h = rw (lt-ltb n 37 h)
+count-dash n k h = rw (lt-ltb n 37 h)
 
-pub count-some : (n k : ℕ) → 37 ≤ n → countText n k ≡ decimal k
+pub count-decimal : (n k : ℕ) → 37 ≤ n → countText n k ≡ decimal k
 unfolding countText
-count-some n k h = rw (le-ltb n 37 h)
+count-decimal n k h = rw (le-ltb n 37 h)
 
 -- what the call did not write is not shown
 pub count-told : (n j k i : ℕ) → j ≡ cond (ltb n 37) i k → countText n j ≡ countText n k

@@ -5,11 +5,11 @@ ghost use Prim.Native.Nat.{_+_, _≤_};
 ghost use lib.ListN.{length};
 ghost use Rattle.words.specs.Words.{words};
 ghost use Rattle.calls.specs.Answer.{resetText, markText, ofReset, ofMark, resetLine, markLine};
-ghost use Rattle.calls.specs.Wrote.{Says, Holds};
+ghost use Rattle.calls.specs.Wrote.{Prints, Holds};
 
 fn reset_in(out: &mut [u8], image: &mut [u8], target: u32, m: &[u8]) -> usize
     requires { ⌜ Holds (now m) (now image) × (length (now m) ≤ 65536) × (65600 ≤ length (now out)) ⌝ }
-    ensures { λ r. ⌜ Says (resetText (now (m .entry)) target) r (now (out .entry)) (now (out .exit)) ⌝ }
+    ensures { λ r. ⌜ Prints (resetText (now (m .entry)) target) r (now (out .entry)) (now (out .exit)) ⌝ }
 {
     let number = shelf_c::shelf_reset(image, target);
     let at = shown::put_number(out, number);
@@ -18,7 +18,7 @@ fn reset_in(out: &mut [u8], image: &mut [u8], target: u32, m: &[u8]) -> usize
 
 fn mark_in(out: &mut [u8], image: &mut [u8], target: u32, state: u32, m: &[u8]) -> usize
     requires { ⌜ Holds (now m) (now image) × (length (now m) ≤ 65536) × (65600 ≤ length (now out)) ⌝ }
-    ensures { λ r. ⌜ Says (markText (now (m .entry)) target state) r (now (out .entry)) (now (out .exit)) ⌝ }
+    ensures { λ r. ⌜ Prints (markText (now (m .entry)) target state) r (now (out .entry)) (now (out .exit)) ⌝ }
 {
     let number = shelf_c::shelf_mark(image, target, state);
     let at = shown::put_number(out, number);
@@ -27,7 +27,7 @@ fn mark_in(out: &mut [u8], image: &mut [u8], target: u32, state: u32, m: &[u8]) 
 
 fn reset_words(out: &mut [u8], m: &[u8], a: &[u8]) -> usize
     requires { ⌜ (length (now m) ≤ 65536) × (65600 ≤ length (now out)) ⌝ }
-    ensures { λ r. ⌜ Says (ofReset (now (m .entry)) (now (a .entry))) r (now (out .entry)) (now (out .exit)) ⌝ }
+    ensures { λ r. ⌜ Prints (ofReset (now (m .entry)) (now (a .entry))) r (now (out .entry)) (now (out .exit)) ⌝ }
 {
     if !words::is_bytes(m) {
         return bad(out);
@@ -43,7 +43,7 @@ fn reset_words(out: &mut [u8], m: &[u8], a: &[u8]) -> usize
 
 fn mark_words(out: &mut [u8], m: &[u8], a: &[u8], x: &[u8]) -> usize
     requires { ⌜ (length (now m) ≤ 65536) × (65600 ≤ length (now out)) ⌝ }
-    ensures { λ r. ⌜ Says (ofMark (now (m .entry)) (now (a .entry)) (now (x .entry))) r (now (out .entry)) (now (out .exit)) ⌝ }
+    ensures { λ r. ⌜ Prints (ofMark (now (m .entry)) (now (a .entry)) (now (x .entry))) r (now (out .entry)) (now (out .exit)) ⌝ }
 {
     if !words::is_bytes(m) {
         return bad(out);
@@ -64,7 +64,7 @@ fn mark_words(out: &mut [u8], m: &[u8], a: &[u8], x: &[u8]) -> usize
 // Answers a line that is these words after `reset`.
 pub fn reset_line(out: &mut [u8], line: &[u8]) -> usize
     requires { ⌜ (length (now line) ≤ 65536) × (65600 ≤ length (now out)) ⌝ }
-    ensures { λ r. ⌜ Says (resetLine (words (now (line .entry)))) r (now (out .entry)) (now (out .exit)) ⌝ }
+    ensures { λ r. ⌜ Prints (resetLine (words (now (line .entry)))) r (now (out .entry)) (now (out .exit)) ⌝ }
 {
     let m = words::cut(line);
     if m == line.len() {
@@ -80,7 +80,7 @@ pub fn reset_line(out: &mut [u8], line: &[u8]) -> usize
 // Answers a line that is these words after `mark`.
 pub fn mark_line(out: &mut [u8], line: &[u8]) -> usize
     requires { ⌜ (length (now line) ≤ 65536) × (65600 ≤ length (now out)) ⌝ }
-    ensures { λ r. ⌜ Says (markLine (words (now (line .entry)))) r (now (out .entry)) (now (out .exit)) ⌝ }
+    ensures { λ r. ⌜ Prints (markLine (words (now (line .entry)))) r (now (out .entry)) (now (out .exit)) ⌝ }
 {
     let m = words::cut(line);
     if m == line.len() {

@@ -11,12 +11,12 @@ ghost use Rattle.text.specs.Lines.{newline};
 ghost use Rattle.text.specs.Room.{Wrote};
 ghost use Rattle.words.specs.Words.{words};
 ghost use Rattle.calls.specs.Answer.{badLine, callLine, answerOf};
-ghost use Rattle.calls.specs.Wrote.{Says};
+ghost use Rattle.calls.specs.Wrote.{Prints};
 
 // Writes the answer to a line that holds no call.
 fn bad(out: &mut [u8]) -> usize
     requires { ⌜ 65600 ≤ length (now out) ⌝ }
-    ensures { λ r. ⌜ Says badLine r (now (out .entry)) (now (out .exit)) ⌝ }
+    ensures { λ r. ⌜ Prints badLine r (now (out .entry)) (now (out .exit)) ⌝ }
 {
     text::put_word(out, 0, b"bad line")
 }
@@ -24,7 +24,7 @@ fn bad(out: &mut [u8]) -> usize
 // Answers a line by its first word and the rest.
 fn call(out: &mut [u8], op: &[u8], rest: &[u8]) -> usize
     requires { ⌜ (length (now rest) ≤ 65536) × (65600 ≤ length (now out)) ⌝ }
-    ensures { λ r. ⌜ Says (callLine (now (op .entry) ∷ words (now (rest .entry)))) r (now (out .entry)) (now (out .exit)) ⌝ }
+    ensures { λ r. ⌜ Prints (callLine (now (op .entry) ∷ words (now (rest .entry)))) r (now (out .entry)) (now (out .exit)) ⌝ }
 {
     if words::same(op, b"step") {
         return step::step_line(out, rest);
@@ -41,7 +41,7 @@ fn call(out: &mut [u8], op: &[u8], rest: &[u8]) -> usize
 // Answers a line, without the newline.
 fn reply(out: &mut [u8], line: &[u8]) -> usize
     requires { ⌜ 65600 ≤ length (now out) ⌝ }
-    ensures { λ r. ⌜ Says (answerOf (now (line .entry))) r (now (out .entry)) (now (out .exit)) ⌝ }
+    ensures { λ r. ⌜ Prints (answerOf (now (line .entry))) r (now (out .entry)) (now (out .exit)) ⌝ }
 {
     if 65536 < line.len() {
         return text::put_word(out, 0, b"long line");

@@ -4,7 +4,7 @@ ghost use lib.ListN.{length};
 ghost use Rattle.text.specs.Decimal.{decimal};
 ghost use Rattle.text.specs.Room.{Wrote};
 ghost use Rattle.words.specs.Digits.{wordOf};
-ghost use Rattle.calls.specs.Answer.{shown, countText};
+ghost use Rattle.calls.specs.Answer.{shownText, countText};
 ghost use Rattle.calls.specs.Wrote.{Shows};
 
 // Writes bytes as a word at the room's front.
@@ -22,7 +22,7 @@ fn put_bytes(out: &mut [u8], bytes: &[u8]) -> usize
 fn put_by(out: &mut [u8], at: usize, w: &[u8], bytes: &[u8], room: &mut [u8]) -> usize
     requires { ⌜ Shows (now w) (now bytes) × (length (now w) ≤ length (now room)) ⌝ }
     requires { ⌜ at + length (now w) + 1 ≤ length (now out) ⌝ }
-    ensures { λ r. ⌜ Wrote (shown (now (w .entry)) (now (bytes .entry))) at r (now (out .entry)) (now (out .exit)) ⌝ }
+    ensures { λ r. ⌜ Wrote (shownText (now (w .entry)) (now (bytes .entry))) at r (now (out .entry)) (now (out .exit)) ⌝ }
     ensures { λ r. ⌜ r ≤ at + length (now (w .entry)) + 1 ⌝ }
 {
     let n = put_bytes(room, bytes);
@@ -37,7 +37,7 @@ fn put_by(out: &mut [u8], at: usize, w: &[u8], bytes: &[u8], room: &mut [u8]) ->
 pub fn put_shown(out: &mut [u8], at: usize, w: &[u8], bytes: &[u8]) -> usize
     requires { ⌜ Shows (now w) (now bytes) × (length (now w) ≤ 65536) ⌝ }
     requires { ⌜ at + length (now w) + 1 ≤ length (now out) ⌝ }
-    ensures { λ r. ⌜ Wrote (shown (now (w .entry)) (now (bytes .entry))) at r (now (out .entry)) (now (out .exit)) ⌝ }
+    ensures { λ r. ⌜ Wrote (shownText (now (w .entry)) (now (bytes .entry))) at r (now (out .entry)) (now (out .exit)) ⌝ }
     ensures { λ r. ⌜ r ≤ at + length (now (w .entry)) + 1 ⌝ }
 {
     let mut room = [0u8; 65536];

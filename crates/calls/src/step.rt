@@ -8,7 +8,7 @@ ghost use lib.ListN.{length};
 ghost use Rattle.words.specs.Words.{words};
 ghost use Rattle.words.specs.Digits.{unhex};
 ghost use Rattle.calls.specs.Answer.{leftText, stepText, stepOk, ofStep, stepLine};
-ghost use Rattle.calls.specs.Wrote.{Says, Shows, Holds, Given, Lent};
+ghost use Rattle.calls.specs.Wrote.{Prints, Shows, Holds, Given, Lent};
 
 // Writes what a step answered and left.
 fn put_step(
@@ -24,7 +24,7 @@ fn put_step(
 ) -> usize
     requires { ⌜ Shows (now m) (now image) × Shows (now r) (now room) × Shows (now n) (now sense) ⌝ }
     requires { ⌜ Lent (now m) (now r) (now n) (now out) ⌝ }
-    ensures { λ t. ⌜ Says (leftText number count (now (m .entry)) (now (image .entry)) (now (r .entry)) (now (room .entry)) (now (n .entry)) (now (sense .entry))) t (now (out .entry)) (now (out .exit)) ⌝ }
+    ensures { λ t. ⌜ Prints (leftText number count (now (m .entry)) (now (image .entry)) (now (r .entry)) (now (room .entry)) (now (n .entry)) (now (sense .entry))) t (now (out .entry)) (now (out .exit)) ⌝ }
 {
     let at = shown::put_number(out, number);
     let at = text::put_word(out, at, b" ");
@@ -49,7 +49,7 @@ fn step_in(
 ) -> usize
     requires { ⌜ Holds (now m) (now image) × Holds (now r) (now room) × Holds (now n) (now sense) ⌝ }
     requires { ⌜ Lent (now m) (now r) (now n) (now out) ⌝ }
-    ensures { λ t. ⌜ Says (stepText (now (m .entry)) target (now (cdb .entry)) (now (sent .entry)) (now (r .entry)) (now (n .entry))) t (now (out .entry)) (now (out .exit)) ⌝ }
+    ensures { λ t. ⌜ Prints (stepText (now (m .entry)) target (now (cdb .entry)) (now (sent .entry)) (now (r .entry)) (now (n .entry))) t (now (out .entry)) (now (out .exit)) ⌝ }
 {
     let mut count: u32 = 0;
     let number = shelf_c::shelf_step(image, target, cdb, sent, room, sense, &mut count);
@@ -68,7 +68,7 @@ fn step_rooms(
 ) -> usize
     requires { ⌜ Given (now m) × Given (now r) × Given (now n) ⌝ }
     requires { ⌜ Lent (now m) (now r) (now n) (now out) ⌝ }
-    ensures { λ t. ⌜ Says (stepText (now (m .entry)) target (now (cdb .entry)) (now (sent .entry)) (now (r .entry)) (now (n .entry))) t (now (out .entry)) (now (out .exit)) ⌝ }
+    ensures { λ t. ⌜ Prints (stepText (now (m .entry)) target (now (cdb .entry)) (now (sent .entry)) (now (r .entry)) (now (n .entry))) t (now (out .entry)) (now (out .exit)) ⌝ }
 {
     let mut image = [0u8; 32768];
     let mut room = [0u8; 32768];
@@ -95,7 +95,7 @@ fn step_sent(out: &mut [u8], m: &[u8], target: u32, c: &[u8], s: &[u8], r: &[u8]
     requires { ⌜ Given (now m) × Given (now c) × Given (now s) × Given (now r) × Given (now n) ⌝ }
     requires { ⌜ length (now m) + length (now c) + length (now s) + length (now r) + length (now n) ≤ 65536 ⌝ }
     requires { ⌜ 65600 ≤ length (now out) ⌝ }
-    ensures { λ t. ⌜ Says (stepText (now (m .entry)) target (unhex (now (c .entry))) (unhex (now (s .entry))) (now (r .entry)) (now (n .entry))) t (now (out .entry)) (now (out .exit)) ⌝ }
+    ensures { λ t. ⌜ Prints (stepText (now (m .entry)) target (unhex (now (c .entry))) (unhex (now (s .entry))) (now (r .entry)) (now (n .entry))) t (now (out .entry)) (now (out .exit)) ⌝ }
 {
     let mut cdb = [0u8; 32768];
     let mut sent = [0u8; 32768];
@@ -130,7 +130,7 @@ fn step_ok(m: &[u8], a: &[u8], c: &[u8], s: &[u8], r: &[u8], n: &[u8]) -> bool
 fn step_words(out: &mut [u8], m: &[u8], a: &[u8], c: &[u8], s: &[u8], r: &[u8], n: &[u8]) -> usize
     requires { ⌜ length (now m) + length (now c) + length (now s) + length (now r) + length (now n) ≤ 65536 ⌝ }
     requires { ⌜ 65600 ≤ length (now out) ⌝ }
-    ensures { λ t. ⌜ Says (ofStep (now (m .entry)) (now (a .entry)) (now (c .entry)) (now (s .entry)) (now (r .entry)) (now (n .entry))) t (now (out .entry)) (now (out .exit)) ⌝ }
+    ensures { λ t. ⌜ Prints (ofStep (now (m .entry)) (now (a .entry)) (now (c .entry)) (now (s .entry)) (now (r .entry)) (now (n .entry))) t (now (out .entry)) (now (out .exit)) ⌝ }
 {
     if !step_ok(m, a, c, s, r, n) {
         return bad(out);
@@ -142,7 +142,7 @@ fn step_words(out: &mut [u8], m: &[u8], a: &[u8], c: &[u8], s: &[u8], r: &[u8], 
 // Reads on after three words.
 fn step_rest(out: &mut [u8], m: &[u8], a: &[u8], c: &[u8], line: &[u8]) -> usize
     requires { ⌜ (length (now m) + length (now c) + length (now line) ≤ 65536) × (65600 ≤ length (now out)) ⌝ }
-    ensures { λ t. ⌜ Says (stepLine (now (m .entry) ∷ now (a .entry) ∷ now (c .entry) ∷ words (now (line .entry)))) t (now (out .entry)) (now (out .exit)) ⌝ }
+    ensures { λ t. ⌜ Prints (stepLine (now (m .entry) ∷ now (a .entry) ∷ now (c .entry) ∷ words (now (line .entry)))) t (now (out .entry)) (now (out .exit)) ⌝ }
 {
     let s = words::cut(line);
     if s == line.len() {
@@ -163,7 +163,7 @@ fn step_rest(out: &mut [u8], m: &[u8], a: &[u8], c: &[u8], line: &[u8]) -> usize
 // Answers a line that is these words after `step`.
 pub fn step_line(out: &mut [u8], line: &[u8]) -> usize
     requires { ⌜ (length (now line) ≤ 65536) × (65600 ≤ length (now out)) ⌝ }
-    ensures { λ t. ⌜ Says (stepLine (words (now (line .entry)))) t (now (out .entry)) (now (out .exit)) ⌝ }
+    ensures { λ t. ⌜ Prints (stepLine (words (now (line .entry)))) t (now (out .entry)) (now (out .exit)) ⌝ }
 {
     let m = words::cut(line);
     if m == line.len() {

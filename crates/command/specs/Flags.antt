@@ -1,6 +1,6 @@
 -- The masks of byte 1 leave just the bits that 01 names. Assumes nothing.
 use Prim.Native.Nat.{ℕ, _+_, _*_, _/_, _%_, _<_}
-use mathlib.Core.Bool.{Bool, true, false, cond, not}
+use mathlib.Core.Bool.{Bool, true, false, Bool·beq}
 use mathlib.Core.Path.{_≡_, refl, sym}
 use lib.Dec.{eqb}
 use lib.Bits.{bitAnd}
@@ -20,17 +20,14 @@ namedBits Read f = f / 16 % 2 * 16 + f / 8 % 2 * 8
 namedBits Write f = f / 16 % 2 * 16 + f / 8 % 2 * 8
 namedBits Unknown f = f
 
-abbrev alike : Bool → Bool → Bool
-alike a b = cond a b (not b)
-
-alike-same : (a b : Bool) → alike a b ≡ true → a ≡ b
-alike-same true true e = refl
-alike-same true false e = sym e
-alike-same false true e = e
-alike-same false false e = refl
+beq-same : (a b : Bool) → Bool·beq a b ≡ true → a ≡ b
+beq-same true true e = refl
+beq-same true false e = sym e
+beq-same false true e = e
+beq-same false false e = refl
 
 abbrev right : Op → ℕ → Bool
-right o f = alike (eqb (bitAnd f (zeroBits o)) 0) (eqb f (namedBits o f))
+right o f = Bool·beq (eqb (bitAnd f (zeroBits o)) 0) (eqb f (namedBits o f))
 
 each-byte : (o : Op) → allBelow 256 (right o) ≡ true
 unfolding allBelow
@@ -45,4 +42,4 @@ each-byte Unknown = refl
 
 -- "All other bits of byte 1 .. must be zero": the byte is its named bits
 pub named-alone : (o : Op) (f : ℕ) → f < 256 → eqb (bitAnd f (zeroBits o)) 0 ≡ eqb f (namedBits o f)
-named-alone o f h = alike-same _ _ (all-at (right o) 256 f (each-byte o) h)
+named-alone o f h = beq-same _ _ (all-at (right o) 256 f (each-byte o) h)

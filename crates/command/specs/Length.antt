@@ -6,7 +6,7 @@ use mathlib.Core.List.{List}
 use mathlib.Core.Bool.{Bool, true, false, cond}
 use mathlib.Core.Path.{_≡_, refl}
 use lib.Dec.{leb, ltb, eqb}
-use borrow.Author.Tests.{leb-false, eqb-true, lt-ltb, le-ltb, ltb-false, lt-leb, le-leb, eq-eqb, ne-eqb}
+use borrow.Author.Tests.{leb-false, eqb-true, lt-ltb, le-ltb, lt-leb, le-leb, eq-eqb, ne-eqb}
 use Rattle.octets.specs.Number.{be}
 use Rattle.geometry.specs.declared.Geometry.{Geometry}
 use Rattle.geometry.specs.Frame.{InRange}
@@ -16,7 +16,7 @@ use Rattle.command.specs.Command.{Fits, ownOf, resolvedCount, resolvedOf
 -- ---- only the block, only the length changes
 
 -- all but block and length is the same
-pub record Kept (j k : Command) : Type 0 where
+pub record SameButPlace (j k : Command) : Type 0 where
   pub op-kept : j .op ≡ k .op
   pub flags-kept : j .flags ≡ k .flags
   pub six-kept : j .six ≡ k .six
@@ -26,7 +26,7 @@ pub record Kept (j k : Command) : Type 0 where
   pub spot-kept : j .spot ≡ k .spot
 
 module _ (k : Command) (s : List ℕ) where
-  pub own-kept : Kept (ownOf k s) k
+  pub own-kept : SameButPlace (ownOf k s) k
   unfolding ownOf
   own-kept = record { op-kept = refl; flags-kept = refl; six-kept = refl; control-kept = refl; list-kept = refl; second-kept = refl; spot-kept = refl }
 
@@ -47,7 +47,7 @@ pub resolved-same : (n b B : ℕ) → (n ≡ 0xFFFFFFFF → ⊥) → resolvedCou
 resolved-same n b B h = rw (ne-eqb n 0xFFFFFFFF h)
 
 module _ (k : Command) (B : ℕ) where
-  pub resolved-kept : Kept (resolvedOf k B) k
+  pub resolved-kept : SameButPlace (resolvedOf k B) k
   unfolding resolvedOf
   resolved-kept = record { op-kept = refl; flags-kept = refl; six-kept = refl; control-kept = refl; list-kept = refl; second-kept = refl; spot-kept = refl }
 
@@ -92,10 +92,6 @@ resolved-some n b B z = pick (eqb n 0xFFFFFFFF) (leb B b) refl
     pick true true w = omega arith
     pick true false w = let h : b < B = leb-false B b w in omega arith
     pick false v w = omega arith
-
--- a length whose range is inside
-pub resolved-small : (n b B : ℕ) → B ≤ 65536 → ltb B (b + resolvedCount n b B) ≡ false → resolvedCount n b B ≤ 65536
-resolved-small n b B h e = omega (arith, ltb-false B (b + resolvedCount n b B) e)
 
 -- any length in bytes, before its range is known
 pub bytes-small : (k : Command) (g : Geometry) → Fits k → InRange g → k .count * g .l ≤ 17592186040320

@@ -19,18 +19,16 @@ use Rattle.sense.specs.declared.Answer.{Answer}
 use Rattle.sense.specs.declared.Answer.the-variants.{BadImage, NoTarget}
 use Rattle.meaning.specs.declared.Seen.{Seen}
 use Rattle.meaning.specs.declared.Seen.the-variants.{Dash}
-use Rattle.meaning.specs.declared.Decision.{Decision}
-use Rattle.meaning.specs.declared.Decision.the-variants.{Stop}
 use Rattle.meaning.specs.Checks.{isNothing, calls}
 use Rattle.decide.specs.declared.Reached.{Reached}
 use Rattle.decide.specs.declared.Reached.the-variants.{Refused, Drive}
 
-abbrev pub refused : ℕ → Seen → Answer → Reached
-refused n w x = Refused x
+abbrev pub refusal : ℕ → Seen → Answer → Reached
+refusal n w x = Refused x
 
 -- "1 image not valid; 2 no such target"; or the target
 unfoldable pub calledOf : List ℕ → ℕ → Reached
-calledOf m a = first refused (calls m a) (Drive (geometryOf m) (index (driveOf m (geometryOf m) a)))
+calledOf m a = first refusal (calls m a) (Drive (geometryOf m) (index (driveOf m (geometryOf m) a)))
 
 -- ---- as the code goes
 
@@ -51,21 +49,24 @@ module _ (m : List ℕ) (a : ℕ) where
 -- ---- what it says
 
 -- image m is a shelf with geometry g, and drive t has address a
-pub record Target (m : List ℕ) (a : ℕ) (g : Geometry) (t : ℕ) : Type 0 where
+pub record Addressed (m : List ℕ) (a : ℕ) (g : Geometry) (t : ℕ) : Type 0 where
   pub valid : validImage m ≡ true
   pub header : g ≡ geometryOf m
   pub found : driveOf m g a ≡ At t
   pub frame : Framed m g
   pub inside : t < g .d
 
+pub addressed-found : (m : List ℕ) (a : ℕ) (g : Geometry) (t : ℕ) → Addressed m a g t → driveOf m (geometryOf m) a ≡ At t
+addressed-found m a g t x = ap (λ (k : Geometry). driveOf m k a) (sym (x .header)) ∙ x .found
+
 module _ (m : List ℕ) (a : ℕ) where
-  pub called-drive : (g : Geometry) (t : ℕ) → calledOf m a ≡ Drive g t → Target m a g t
+  pub called-drive : (g : Geometry) (t : ℕ) → calledOf m a ≡ Drive g t → Addressed m a g t
   unfolding calledOf
   called-drive g t e = pick (validImage m) (driveOf m (geometryOf m) a) refl refl e
     where
       pick : (v : Bool) (f : Found) → validImage m ≡ v → driveOf m (geometryOf m) a ≡ f
-          → first refused (rule 1 Dash (not v) BadImage ∷ rule 1 Dash (isNothing f) NoTarget ∷ []) (Drive (geometryOf m) (index f)) ≡ Drive g t
-          → Target m a g t
+          → first refusal (rule 1 Dash (not v) BadImage ∷ rule 1 Dash (isNothing f) NoTarget ∷ []) (Drive (geometryOf m) (index f)) ≡ Drive g t
+          → Addressed m a g t
       pick false f p q e = let z : _≡_ {A = ℕ} 0 1 = cc in absurd (omega arith)
       pick true Nothing p q e = let z : _≡_ {A = ℕ} 0 1 = cc in absurd (omega arith)
       pick true (At i) p q e =
@@ -80,7 +81,7 @@ module _ (m : List ℕ) (a : ℕ) where
   called-refused {D} stop x d e = pick (validImage m) (driveOf m (geometryOf m) a) e
     where
       pick : (v : Bool) (f : Found)
-          → first refused (rule 1 Dash (not v) BadImage ∷ rule 1 Dash (isNothing f) NoTarget ∷ []) (Drive (geometryOf m) (index f)) ≡ Refused x
+          → first refusal (rule 1 Dash (not v) BadImage ∷ rule 1 Dash (isNothing f) NoTarget ∷ []) (Drive (geometryOf m) (index f)) ≡ Refused x
           → stop 1 Dash x ≡ first stop (rule 1 Dash (not v) BadImage ∷ rule 1 Dash (isNothing f) NoTarget ∷ []) d
       pick false f e = let h : x ≡ BadImage = cc in rw h
       pick true Nothing e = let h : x ≡ NoTarget = cc in rw h

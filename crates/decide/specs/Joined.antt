@@ -8,11 +8,9 @@ use lib.Bits.{bitAnd}
 use lib.Dec.{eqb}
 use lib.ListN.{length, getD}
 use borrow.Author.Tests.{eq-eqb, ne-eqb}
-use Rattle.rules.specs.declared.Found.the-variants.{At}
 use Rattle.rules.specs.Cases.{either}
 use Rattle.geometry.specs.declared.Geometry.{Geometry}
-use Rattle.geometry.specs.Header.{geometryOf}
-use Rattle.drives.specs.Table.{driveOf, failed}
+use Rattle.drives.specs.Table.{failed}
 use Rattle.sense.specs.declared.Answer.the-variants.{TargetFailed, BadField}
 use Rattle.command.specs.declared.Op.{Op}
 use Rattle.command.specs.declared.Op.the-variants.{XdWrite, XpWrite, XdRead, Rebuild, Regenerate, Read, Write, Unknown}
@@ -22,11 +20,10 @@ use Rattle.command.specs.Lossless.{command-op}
 use Rattle.meaning.specs.declared.Seen.the-variants.{Cdb, Drive}
 use Rattle.meaning.specs.declared.Decision.the-variants.{Stop}
 use Rattle.meaning.specs.Checks.{decideOf}
-use Rattle.single.specs.Stages.{roomyOf, plainOf, readOf, writeOf, xpwriteOf, xdreadOf, matchedOf, answeredOf}
+use Rattle.single.specs.Stages.{roomyOf, plainStage, readOf, writeOf, xpwriteOf, xdreadOf, matchedOf, answeredOf}
 use Rattle.double.specs.Stages.{retainedOf, secondedOf, reachedOf, settledOf, limitedOf, xdwriteOf}
-use Rattle.several.specs.Stages.{faultOr, rebuiltOf, gatheredOf, regeneratedOf, placedOf, lengthOf, ownedOf, headedOf, countedOf, fieldsOf, rebuildOf, regenerateOf}
-use Rattle.several.specs.Stages.{listedOf as listStage}
-use Rattle.decide.specs.Called.{Target}
+use Rattle.several.specs.Stages.{faultOr, rebuiltOf, gatheredOf, regeneratedOf, placedOf, lengthOf, ownedOf, headedOf, listSizedOf, countedOf, fieldsOf, rebuildOf, regenerateOf}
+use Rattle.decide.specs.Called.{Addressed, addressed-found}
 use Rattle.decide.specs.Stages.{eachOf, flaggedOf, checkedOf, sizedOf, openedOf}
 
 -- ---- each command's stages are its list of checks
@@ -37,15 +34,15 @@ module _ (m : List ℕ) (g : Geometry) (t : ℕ) (k : Command) (s : List ℕ) (r
   as-xdwrite = ⊎-elim (λ e. rw e) (λ e. rw e) (either (eqb (secOf k) 3))
 
   as-rebuild : flaggedOf Rebuild m g t k s r ≡ checkedOf Rebuild m g t k s r
-  unfolding flaggedOf checkedOf rebuildOf fieldsOf countedOf listStage headedOf ownedOf lengthOf placedOf rebuiltOf faultOr resolvedOf ownOf
+  unfolding flaggedOf checkedOf rebuildOf fieldsOf countedOf listSizedOf headedOf ownedOf lengthOf placedOf rebuiltOf faultOr resolvedOf ownOf
   as-rebuild = refl
 
   as-regenerate : flaggedOf Regenerate m g t k s r ≡ checkedOf Regenerate m g t k s r
-  unfolding flaggedOf checkedOf regenerateOf fieldsOf countedOf listStage headedOf ownedOf lengthOf placedOf regeneratedOf gatheredOf faultOr resolvedOf ownOf
+  unfolding flaggedOf checkedOf regenerateOf fieldsOf countedOf listSizedOf headedOf ownedOf lengthOf placedOf regeneratedOf gatheredOf faultOr resolvedOf ownOf
   as-regenerate = refl
 
   pub joined : (o : Op) → (sizeOf o ≡ 0 → ⊥) → flaggedOf o m g t k s r ≡ checkedOf o m g t k s r
-  unfolding flaggedOf checkedOf readOf writeOf xpwriteOf plainOf roomyOf xdreadOf matchedOf answeredOf
+  unfolding flaggedOf checkedOf readOf writeOf xpwriteOf plainStage roomyOf xdreadOf matchedOf answeredOf
   joined XdWrite h = as-xdwrite
   joined XpWrite h = refl
   joined XdRead h = refl
@@ -91,8 +88,6 @@ module _ (m : List ℕ) (g : Geometry) (t : ℕ) (c s : List ℕ) (r : ℕ) wher
   unfolding openedOf
   opened-on o b e h z = rw (h, e, ne-eqb (length c) 0 z)
 
-  pub decide-on : (a : ℕ) → Target m a g t → openedOf m g t c s r ≡ decideOf m a c s r
+  pub decide-on : (a : ℕ) → Addressed m a g t → openedOf m g t c s r ≡ decideOf m a c s r
   unfolding decideOf openedOf sizedOf checkedOf
-  decide-on a x =
-      let f : driveOf m (geometryOf m) a ≡ At t = ap (λ (y : Geometry). driveOf m y a) (sym (x .header)) ∙ x .found in
-      ap (λ (y : Geometry). openedOf m y t c s r) (x .header) ∙ rw (x .valid, f)
+  decide-on a x = ap (λ (y : Geometry). openedOf m y t c s r) (x .header) ∙ rw (x .valid, addressed-found m a g t x)

@@ -1,16 +1,22 @@
--- Resets and markings: a refused one changes nothing, and every one keeps a valid image valid. Assumes nothing.
-use mathlib.Core.Path.{_≡_, sym, subst}
+-- Resets and markings: every one keeps a valid image valid, and the drives where they are. Assumes nothing.
+use mathlib.Core.Path.{_≡_, refl, sym, subst}
+use mathlib.Core.Logic.{inl}
 use mathlib.Core.Bool.{false}
 use mathlib.Core.List.{List}
 use Prim.Native.Nat.{ℕ, _<_}
+use native.Mathlib.Omega.{arith}
 use borrow.Author.Tests.{ltb-false}
 use Rattle.rules.specs.Rule.{first-cases}
 use Rattle.geometry.specs.declared.Geometry.{Geometry}
 use Rattle.geometry.specs.Header.{geometryOf}
-use Rattle.drives.specs.Table.{driveOf, marked}
+use Rattle.geometry.specs.Outside.{outside-away}
+use Rattle.drives.specs.Table.{addressOf, driveOf, marked}
+use Rattle.drives.specs.Front.{SameFront}
 use Rattle.drives.specs.Lookup.{drive-inside}
+use Rattle.drives.specs.Marked.{address-marked}
 use Rattle.slots.specs.Change.{dropped}
-use Rattle.image.specs.Shelf.{Shelf}
+use Rattle.results.specs.Drop.{drop-part}
+use Rattle.image.specs.Shelf.{Shelf, shelf-frame}
 use Rattle.image.specs.Keeps.{shelf-dropped, shelf-marked}
 use Rattle.meaning.specs.Checks.{isNothing, calls}
 use Rattle.meaning.specs.Step.{untouched, target, resetImage, markCalls, markImage}
@@ -27,9 +33,23 @@ module _ (m : List ℕ) (g : Geometry) (h : Shelf m g) (a : ℕ) where
       first-cases (untouched m) (λ (t : List ℕ). Shelf t g) (calls m a) (dropped m (geometryOf m) (target m a)) (λ n w x. h)
       (λ p. subst (λ (k : Geometry). Shelf (dropped m k (target m a)) g) (sym (h .header)) (shelf-dropped m g h (target m a)))
 
+  -- a reset leaves header and drive table
+  pub reset-front : SameFront (resetImage m a) m g
+  unfolding resetImage
+  reset-front =
+      first-cases (untouched m) (λ (t : List ℕ). SameFront t m g) (calls m a) (dropped m (geometryOf m) (target m a)) (λ n w x. refl)
+      (λ p. subst (λ (k : Geometry). SameFront (dropped m k (target m a)) m g) (sym (h .header))
+      (drop-part m g (target m a) 0 (g .slots) (outside-away g 0 (g .slots) (shelf-frame m g h .placed) (inl (omega arith)))))
+
   pub mark-shelf : (state : ℕ) → Shelf (markImage m a state) g
   unfolding markImage
   mark-shelf state =
       first-cases (untouched m) (λ (t : List ℕ). Shelf t g) (markCalls m a state) (marked m (geometryOf m) (target m a) state) (λ n w x. h)
       (λ p. subst (λ (k : Geometry). Shelf (marked m k (target m a) state) g) (sym (h .header))
       (shelf-marked m g h (target m a) state (subst (λ (k : Geometry). target m a < k .d) (h .header) (target-in m a (p .1 .0))) (ltb-false 1 state (p .1 .1 .0))))
+
+  pub mark-address : (state i : ℕ) → addressOf (markImage m a state) g i ≡ addressOf m g i
+  unfolding markImage
+  mark-address state i =
+      first-cases (untouched m) (λ (t : List ℕ). addressOf t g i ≡ addressOf m g i) (markCalls m a state) (marked m (geometryOf m) (target m a) state) (λ n w x. refl)
+      (λ p. subst (λ (k : Geometry). addressOf (marked m k (target m a) state) g i ≡ addressOf m g i) (sym (h .header)) (address-marked m g (target m a) state i))

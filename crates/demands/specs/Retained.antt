@@ -1,8 +1,8 @@
 -- What each act does to the retained results by age; and XDREAD's answer is the newest at its drive and block. Assumes nothing.
 use mathlib.Core.Path.{_≡_, refl, sym, ap, _∙_}
-use mathlib.Core.Bool.{Bool, true, false, cond}
+use mathlib.Core.Bool.{cond}
 use mathlib.Core.Logic.{inr}
-use mathlib.Core.List.{List, [], _∷_, _++_}
+use mathlib.Core.List.{List, [], _∷_}
 use mathlib.Core.Option.{some}
 use Prim.Native.Nat.{ℕ, _*_, _≤_}
 use lib.Dec.{eqb}
@@ -13,7 +13,7 @@ use Rattle.geometry.specs.declared.Geometry.{Geometry}
 use Rattle.geometry.specs.Header.{dataAt}
 use Rattle.slots.specs.Kept.{put-outside, media-empty}
 use Rattle.results.specs.First.{firstOf, sansFirst}
-use Rattle.results.specs.Results.{Result, Sound, results, resultAt}
+use Rattle.results.specs.Results.{Result, results, resultAt}
 use Rattle.results.specs.Retain.{retain-results}
 use Rattle.results.specs.Kept.{kept-results}
 use Rattle.results.specs.Newest.{answers, newest-result, newest-goes}
@@ -22,10 +22,10 @@ use Rattle.image.specs.Keeps.{shelf-written}
 use Rattle.meaning.specs.declared.Span.{Span}
 use Rattle.meaning.specs.declared.Act.{Act}
 use Rattle.meaning.specs.declared.Act.the-variants.{Read, Write, XpWrite, XdRead, Couple, Retain, Rebuild, Regenerate}
-use Rattle.meaning.specs.Acts.{stored, store, spanAt, blocksOf, resultOf, keeping, gathered, leaves, hands}
+use Rattle.meaning.specs.Acts.{spanAt, blocksOf, resultOf, gathered, leaves, hands}
 use Rattle.meaning.specs.Allowed.{Allowed}
 use Rattle.meaning.specs.Lengths.{span-after-media}
-use Rattle.demands.specs.Leaves.{resultIn, keeping-is, written-keeping}
+use Rattle.demands.specs.Leaves.{resultIn, stored-result, retain-leaves}
 use Rattle.demands.specs.Valid.{retained-sound, regenerated-sound}
 
 -- the results after an act
@@ -48,24 +48,16 @@ module _ (s : List ℕ) (g : Geometry) (h : Shelf s g) (sent : List ℕ) where
 
   retain-after : (room : ℕ) (x : Span) (i mirror ndisc : ℕ) → Allowed s g sent room (Retain x i mirror ndisc)
       → results (leaves s g sent (Retain x i mirror ndisc)) g ≡ afterwards s g sent (Retain x i mirror ndisc)
-  retain-after room x i mirror ndisc (b, e, m, v) = pick (eqb ndisc 0)
-    where
-      res : List ℕ
-      res = resultOf s g x mirror sent
-
-      sound : Sound g (resultIn 1 x res)
-      sound = retained-sound s g h sent x mirror b e m
-
-      pick : (c : Bool) → results (stored s (cond c (store (spanAt g x) sent ∷ []) [] ++ keeping s g i 1 x res)) g ≡ resultIn 1 x res ∷ results s g
-      pick true =
-          let w = put s (spanAt g x) sent in
-          let p = shelf-frame s g h .placed in
-          let hw = shelf-written s g h (spanAt g x) sent (span-after-media g x) in
-          ap (λ (t : List ℕ). results t g) (written-keeping s g i 1 (spanAt g x) x sent res p (span-after-media g x) (v .takes))
-          ∙ retain-results w g (shelf-frame w g hw) (hw .slots-ok) i (media-empty s g (spanAt g x) sent p (span-after-media g x) ∙ v .takes) (resultIn 1 x res) sound
-          ∙ ap (λ (l : List Result). resultIn 1 x res ∷ l) (written-results (spanAt g x) sent (span-after-media g x))
-      pick false =
-          ap (λ (t : List ℕ). results t g) (keeping-is s g i 1 x res (v .takes)) ∙ retain-results s g (shelf-frame s g h) (h .slots-ok) i (v .takes) (resultIn 1 x res) sound
+  retain-after room x i mirror ndisc (b, e, m, v) =
+      let p = shelf-frame s g h .placed in
+      let ys = cond (eqb ndisc 0) sent [] in
+      let media = span-after-media g x in
+      let w = put s (spanAt g x) ys in
+      let hw = shelf-written s g h (spanAt g x) ys media in
+      let z = resultIn 1 x (resultOf s g x mirror sent) in
+      ap (λ (t : List ℕ). results t g) (retain-leaves s g sent x i mirror ndisc p (v .takes))
+      ∙ retain-results w g (shelf-frame w g hw) (hw .slots-ok) i (media-empty s g (spanAt g x) ys p media ∙ v .takes) z (retained-sound s g h sent x mirror b e m)
+      ∙ ap (λ (l : List Result). z ∷ l) (written-results (spanAt g x) ys media)
 
   pub results-after : (room : ℕ) (act : Act) → Allowed s g sent room act → results (leaves s g sent act) g ≡ afterwards s g sent act
   results-after room (Read x) a = refl
@@ -81,7 +73,7 @@ module _ (s : List ℕ) (g : Geometry) (h : Shelf s g) (sent : List ℕ) where
   results-after room (Rebuild x n int) a = written-results (spanAt g x) (gathered s g sent (x .count) n int) (span-after-media g x)
   results-after room (Regenerate x n int i) a =
       let bytes = blocksOf s g x ⊻ gathered s g sent (x .count) n int in
-      ap (λ (t : List ℕ). results t g) (keeping-is s g i 2 x bytes (a .3 .takes))
+      ap (λ (t : List ℕ). results t g) (stored-result s g i 2 x bytes (a .3 .takes))
       ∙ retain-results s g (shelf-frame s g h) (h .slots-ok) i (a .3 .takes) (resultIn 2 x bytes)
       (regenerated-sound s g h sent x n int (a .0) (a .1) (a .2))
 

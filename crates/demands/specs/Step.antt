@@ -16,9 +16,8 @@ use Rattle.meaning.specs.declared.Act.{Act}
 use Rattle.meaning.specs.declared.Decision.{Decision}
 use Rattle.meaning.specs.declared.Decision.the-variants.{Stop, Go}
 use Rattle.meaning.specs.Acts.{leaves, hands}
-use Rattle.meaning.specs.Allowed.{Allowed}
 use Rattle.meaning.specs.Step.{decided, imageAfter, roomAfter, outcomeAfter, stepImage, stepRoom, stepOutcome}
-use Rattle.licence.specs.Granted.{granted}
+use Rattle.licence.specs.Granted.{granted, allowed-at}
 use Rattle.demands.specs.Valid.{leaves-shelf}
 use Rattle.demands.specs.Beside.{Beside, leaves-beside}
 
@@ -40,9 +39,8 @@ module _ (m : List ℕ) (a : ℕ) (c s r : List ℕ) where
       pick : (d : Decision) → decided m a c s r ≡ d → Shelf (imageAfter d m s) g
       pick (Stop n w x) e = h
       pick (Go act x) e =
-          let al = granted m a c s (length r) act x e .allowed in
           subst (λ (k : Geometry). Shelf (leaves m k s act) g) (sym (h .header))
-          (leaves-shelf m g h s (length r) act (subst (λ (k : Geometry). Allowed m k s (length r) act) (h .header) al))
+          (leaves-shelf m g h s (length r) act (allowed-at m g h a c s (length r) act x e))
 
   -- a command that is carried out leaves every byte beside what it names, and the room past the count
   pub step-beside : (act : Act) (x : Answer) → decided m a c s r ≡ Go act x → (i n : ℕ) → Beside (geometryOf m) act i n → part (stepImage m a c s r) i n ≡ part m i n

@@ -1,7 +1,7 @@
 -- Every act keeps a valid image valid, with the same geometry. Assumes nothing.
 use mathlib.Core.Path.{_≡_, sym, subst, _∙_}
-use mathlib.Core.Bool.{Bool, true, false, cond}
-use mathlib.Core.List.{List, [], _∷_, _++_}
+use mathlib.Core.Bool.{cond}
+use mathlib.Core.List.{List, []}
 use Prim.Native.Nat.{ℕ, _*_, _≤_}
 use native.Mathlib.Omega.{arith}
 use lib.Dec.{eqb}
@@ -11,17 +11,17 @@ use Rattle.octets.specs.Xor.{_⊻_, length-xor-le}
 use Rattle.rules.specs.Every.{holds}
 use Rattle.geometry.specs.declared.Geometry.{Geometry}
 use Rattle.slots.specs.Kept.{media-empty}
-use Rattle.results.specs.Results.{Result, Sound}
+use Rattle.results.specs.Results.{Sound}
 use Rattle.results.specs.Best.{newest-at}
 use Rattle.image.specs.Shelf.{Shelf, shelf-frame}
 use Rattle.image.specs.Keeps.{shelf-retained, shelf-released, shelf-written}
 use Rattle.meaning.specs.declared.Span.{Span}
 use Rattle.meaning.specs.declared.Act.{Act}
 use Rattle.meaning.specs.declared.Act.the-variants.{Read, Write, XpWrite, XdRead, Couple, Retain, Rebuild, Regenerate}
-use Rattle.meaning.specs.Acts.{stored, store, spanAt, blocksOf, resultOf, keeping, gathered, leaves}
+use Rattle.meaning.specs.Acts.{spanAt, blocksOf, resultOf, gathered, leaves}
 use Rattle.meaning.specs.Allowed.{Blocks, Filled, Limited, Sourced, Allowed}
 use Rattle.meaning.specs.Lengths.{span-after-media, length-blocks, length-result, length-gathered}
-use Rattle.demands.specs.Leaves.{resultIn, keeping-is, written-keeping}
+use Rattle.demands.specs.Leaves.{resultIn, stored-result, retain-leaves}
 
 -- what an act retains is sound
 sound-in : (s : List ℕ) (g : Geometry) (kind : ℕ) (x : Span) (bytes : List ℕ) → 1 ≤ kind → kind ≤ 2 → Blocks s g x → Limited g x → length bytes ≡ x .count * g .l
@@ -56,22 +56,13 @@ module _ (s : List ℕ) (g : Geometry) (h : Shelf s g) (sent : List ℕ) where
       sound-in s g 2 x (blocksOf s g x ⊻ gathered s g sent (x .count) n int) (omega arith) (omega arith) b m (regenerated-long x n int b w)
 
   kept-retain : (x : Span) (i mirror ndisc : ℕ) → Allowed s g sent 0 (Retain x i mirror ndisc) → Shelf (leaves s g sent (Retain x i mirror ndisc)) g
-  kept-retain x i mirror ndisc (b, e, m, v) = pick (eqb ndisc 0)
-    where
-      r : Result
-      r = resultIn 1 x (resultOf s g x mirror sent)
-
-      sound : Sound g r
-      sound = retained-sound x mirror b e m
-
-      pick : (c : Bool) → Shelf (stored s (cond c (store (spanAt g x) sent ∷ []) [] ++ keeping s g i 1 x (resultOf s g x mirror sent))) g
-      pick true =
-          let w = put s (spanAt g x) sent in
-          let p = shelf-frame s g h .placed in
-          subst (λ (t : List ℕ). Shelf t g) (sym (written-keeping s g i 1 (spanAt g x) x sent (resultOf s g x mirror sent) p (span-after-media g x) (v .takes)))
-          (shelf-retained w g (shelf-written s g h (spanAt g x) sent (span-after-media g x)) i (media-empty s g (spanAt g x) sent p (span-after-media g x) ∙ v .takes) r sound)
-      pick false =
-          subst (λ (t : List ℕ). Shelf t g) (sym (keeping-is s g i 1 x (resultOf s g x mirror sent) (v .takes))) (shelf-retained s g h i (v .takes) r sound)
+  kept-retain x i mirror ndisc (b, e, m, v) =
+      let p = shelf-frame s g h .placed in
+      let ys = cond (eqb ndisc 0) sent [] in
+      let media = span-after-media g x in
+      subst (λ (t : List ℕ). Shelf t g) (sym (retain-leaves s g sent x i mirror ndisc p (v .takes)))
+      (shelf-retained (put s (spanAt g x) ys) g (shelf-written s g h (spanAt g x) ys media) i (media-empty s g (spanAt g x) ys p media ∙ v .takes)
+      (resultIn 1 x (resultOf s g x mirror sent)) (retained-sound x mirror b e m))
 
   pub leaves-shelf : (room : ℕ) (act : Act) → Allowed s g sent room act → Shelf (leaves s g sent act) g
   leaves-shelf room (Read x) a = h
@@ -86,5 +77,5 @@ module _ (s : List ℕ) (g : Geometry) (h : Shelf s g) (sent : List ℕ) where
   leaves-shelf room (Rebuild x n int) a = shelf-written s g h (spanAt g x) (gathered s g sent (x .count) n int) (span-after-media g x)
   leaves-shelf room (Regenerate x n int i) a =
       let bytes = blocksOf s g x ⊻ gathered s g sent (x .count) n int in
-      subst (λ (t : List ℕ). Shelf t g) (sym (keeping-is s g i 2 x bytes (a .3 .takes)))
+      subst (λ (t : List ℕ). Shelf t g) (sym (stored-result s g i 2 x bytes (a .3 .takes)))
       (shelf-retained s g h i (a .3 .takes) (resultIn 2 x bytes) (regenerated-sound x n int (a .0) (a .1) (a .2)))

@@ -18,14 +18,14 @@ use Rattle.meaning.specs.Checks.{spanOf}
 use Rattle.double.specs.Stages.{retainedOf, secondedOf, reachedOf}
 
 module _ (f : Found) (t : ℕ) (k : Command) where
-  pub retained-at : (i mirror ndisc : ℕ) (x : Span) → f ≡ At i → x ≡ spanOf t k → mirror ≡ mirrorOf k → ndisc ≡ ndiscOf k
+  pub retains-at : (i mirror ndisc : ℕ) (x : Span) → f ≡ At i → x ≡ spanOf t k → mirror ≡ mirrorOf k → ndisc ≡ ndiscOf k
       → Go (Retain x i mirror ndisc) Good ≡ retainedOf f t k
   unfolding retainedOf
-  retained-at i mirror ndisc x e h p q = rw (e, h, p, q)
+  retains-at i mirror ndisc x e h p q = rw (e, h, p, q)
 
-  pub retained-none : f ≡ Nothing → Stop 9 Dash Busy ≡ retainedOf f t k
+  pub retains-busy : f ≡ Nothing → Stop 9 Dash Busy ≡ retainedOf f t k
   unfolding retainedOf
-  retained-none e = rw e
+  retains-busy e = rw e
 
   module _ (m : List ℕ) (g : Geometry) where
     pub reached-at : (j : ℕ) (down : Bool) → f ≡ At j → down ≡ failed m g j → secondedOf j down g t k ≡ reachedOf f m g t k

@@ -1,11 +1,11 @@
 -- What the tests of the table say. Assumes nothing.
-use Prim.Native.Nat.{ℕ, _+_, _≤_, _<_}
+use Prim.Native.Nat.{ℕ, _+_, _<_}
 use native.Mathlib.Omega.{arith}
 use mathlib.Core.List.{List}
 use mathlib.Core.Bool.{true}
 use mathlib.Core.Path.{_≡_, sym}
 use mathlib.Core.Logic.{⊎-elim}
-use borrow.Author.Tests.{leb-true, eqb-false, not-true}
+use borrow.Author.Tests.{eqb-false, not-true}
 use Rattle.octets.specs.Octets.{Octets}
 use Rattle.octets.specs.Number.{be-lt}
 use Rattle.rules.specs.Cases.{same, apart}
@@ -14,7 +14,7 @@ use Rattle.rules.specs.All.{all-at}
 use Rattle.geometry.specs.declared.Geometry.{Geometry}
 use Rattle.geometry.specs.Header.{entryAt}
 use Rattle.geometry.specs.Frame.{Framed}
-use Rattle.drives.specs.Table.{stateOf, addressOf, statesOk, newAddress, addressesOk, tableOk}
+use Rattle.drives.specs.Table.{addressOf, statesOk, newAddress, addressesOk, tableOk}
 
 module _ (s : List ℕ) (g : Geometry) where
   pub table-states : tableOk s g ≡ true → statesOk s g ≡ true
@@ -24,10 +24,6 @@ module _ (s : List ℕ) (g : Geometry) where
   pub table-addresses : tableOk s g ≡ true → addressesOk s g ≡ true
   unfolding tableOk
   table-addresses ok = holds _ 1 ok
-
-  pub state-low : statesOk s g ≡ true → (i : ℕ) → i < g .d → stateOf s g i ≤ 1
-  unfolding statesOk
-  state-low ok i l = leb-true _ _ (all-at _ (g .d) i ok l)
 
   earlier-differs : addressesOk s g ≡ true → (i j : ℕ) → i < g .d → j < i → addressOf s g j ≡ addressOf s g i → ⊥
   unfolding addressesOk newAddress

@@ -8,7 +8,6 @@ use mathlib.Core.Path.{_≡_, sym, ap, _∙_}
 use mathlib.Core.Logic.{inl, inr, ⊎-elim}
 use lib.ListN.{length, getD}
 use borrow.Author.Tests.{le-leb}
-use Rattle.octets.specs.Octets.{Octets, octets-one, octets-put}
 use Rattle.octets.specs.Part.{part}
 use Rattle.octets.specs.Put.{put, length-put, getD-put-before, getD-put-in, getD-put-after}
 use Rattle.octets.specs.PutPut.{part-put-above}
@@ -20,18 +19,14 @@ use Rattle.geometry.specs.declared.Geometry.{Geometry}
 use Rattle.geometry.specs.Header.{geometryOf, entryAt}
 use Rattle.geometry.specs.Frame.{Placed, Framed}
 use Rattle.geometry.specs.Kept.{geometry-put}
-use Rattle.drives.specs.Table.{stateOf, addressOf, statesOk, addressesOk, tableOk, driveOf, marked}
+use Rattle.drives.specs.Table.{stateOf, addressOf, statesOk, addressesOk, tableOk, marked}
 use Rattle.drives.specs.Facts.{table-states, table-addresses}
-use Rattle.drives.specs.Front.{drive-ext, addresses-ext}
+use Rattle.drives.specs.Front.{addresses-ext}
 
 module _ (s : List ℕ) (g : Geometry) (i state : ℕ) where
   pub length-marked : length (marked s g i state) ≡ length s
   unfolding marked
   length-marked = length-put s (entryAt g i) (state ∷ [])
-
-  pub octets-marked : Octets s → state < 256 → Octets (marked s g i state)
-  unfolding marked
-  octets-marked o h = octets-put s (entryAt g i) (state ∷ []) o (octets-one state h)
 
   -- the other drives' states
   pub state-marked-other : (j : ℕ) → (j ≡ i → ⊥) → stateOf (marked s g i state) g j ≡ stateOf s g j
@@ -49,9 +44,6 @@ module _ (s : List ℕ) (g : Geometry) (i state : ℕ) where
 
   pub addresses-marked : addressesOk (marked s g i state) g ≡ addressesOk s g
   addresses-marked = addresses-ext (marked s g i state) s g (λ j l. address-marked j)
-
-  pub drive-marked : (a : ℕ) → driveOf (marked s g i state) g a ≡ driveOf s g a
-  drive-marked = drive-ext (marked s g i state) s g (λ j l. address-marked j)
 
   -- the header, and everything from the slots on
   pub geometry-marked : Placed g → geometryOf (marked s g i state) ≡ geometryOf s

@@ -7,14 +7,11 @@ use lib.Dec.{eqb}
 use lib.ListN.{length}
 use Rattle.octets.specs.Part.{part, Apart}
 use Rattle.octets.specs.Xor.{_⊻_}
-use Rattle.rules.specs.Least.{index}
 use Rattle.geometry.specs.declared.Geometry.{Geometry}
-use Rattle.geometry.specs.Header.{place}
 use Rattle.geometry.specs.Frame.{Framed}
-use Rattle.drives.specs.Table.{driveOf}
 use Rattle.command.specs.declared.Source.{Source}
 use Rattle.command.specs.Command.{sourceOf}
-use Rattle.meaning.specs.Acts.{gathered}
+use Rattle.meaning.specs.Acts.{homeOf, startOf, gathered}
 use Rattle.gather.specs.declared.Job.{Job}
 
 -- how many bytes each operand has
@@ -26,13 +23,6 @@ unfoldable pub summed : List ℕ → Geometry → List ℕ → Job → List ℕ
 summed s g sent j = cond (j .own) (part s (j .from) (size g j)) [] ⊻ gathered s g sent (j .count) (j .sources) (j .int)
 
 -- ---- what the code needs
-
--- the drive that a source names, and where its blocks start
-abbrev pub homeOf : List ℕ → Geometry → Source → ℕ
-homeOf s g x = index (driveOf s g (x .address .0))
-
-abbrev pub startOf : List ℕ → Geometry → Source → ℕ
-startOf s g x = place g (homeOf s g x) (x .block .0)
 
 -- a source names a block of a drive, or a drive's end
 pub record Named (s : List ℕ) (g : Geometry) (x : Source) : Type 0 where

@@ -16,7 +16,8 @@ use Rattle.geometry.specs.Header.{place}
 use Rattle.drives.specs.Table.{driveOf}
 use Rattle.command.specs.declared.Source.{Source}
 use Rattle.command.specs.Command.{sourceOf}
-use Rattle.gather.specs.Job.{homeOf, startOf, Named, Listed}
+use Rattle.meaning.specs.Acts.{homeOf, startOf}
+use Rattle.gather.specs.Job.{Named, Listed}
 
 -- one source
 module _ (s : List ℕ) (g : Geometry) (x : Source) (f : Found) (d : ℕ) (fe : f ≡ driveOf s g (x .address .0)) (de : d ≡ index f) where

@@ -13,10 +13,10 @@ use Rattle.octets.specs.Xor.{_⊻_, xor-regroups, nil-xor, zeros-xor}
 use Rattle.octets.specs.Operands.{xorAll, xorAll-one, xorAll-append}
 use Rattle.geometry.specs.declared.Geometry.{Geometry}
 use Rattle.command.specs.Command.{sourceOf}
-use Rattle.meaning.specs.Acts.{sourcesFrom, intData, gathered}
+use Rattle.meaning.specs.Acts.{startOf, sourcesFrom, intData, gathered}
 use Rattle.meaning.specs.Lengths.{gathered-long}
 use Rattle.gather.specs.declared.Job.{Job}
-use Rattle.gather.specs.Job.{size, summed, startOf, Ready}
+use Rattle.gather.specs.Job.{size, summed, Ready}
 use Rattle.gather.specs.Starts.{startsOver, length-starts, start-is}
 use Rattle.gather.specs.Pieces.{seedPiece, piecesFrom, intPiece, sumPiece, Laid}
 

@@ -7,7 +7,8 @@ ghost use Prim.Native.Nat.{_≤_};
 ghost use lib.ListN.{length};
 ghost use Rattle.rules.specs.Least.{index};
 ghost use Rattle.geometry.specs.Frame.{Framed};
-ghost use Rattle.gather.specs.Job.{startOf, Named, Listed};
+ghost use Rattle.meaning.specs.Acts.{startOf};
+ghost use Rattle.gather.specs.Job.{Named, Listed};
 ghost use Rattle.gather.specs.Starts.{startsOver};
 
 // Writes where the blocks of each of the first n entries start.

@@ -8,8 +8,7 @@ use lib.Dec.{eqb}
 use lib.ListN.{length, getD}
 use borrow.Author.Tests.{ltb-false, eqb-true, eqb-false, not-false}
 use Rattle.octets.specs.Number.{be}
-use Rattle.rules.specs.declared.Found.the-variants.{Nothing}
-use Rattle.rules.specs.Every.{holds}
+use Rattle.rules.specs.declared.Found.the-variants.{At, Nothing}
 use Rattle.rules.specs.Least.{index}
 use Rattle.geometry.specs.declared.Geometry.{Geometry}
 use Rattle.geometry.specs.Places.{Range}
@@ -17,8 +16,7 @@ use Rattle.drives.specs.Table.{driveOf, failed}
 use Rattle.drives.specs.Lookup.{drive-inside}
 use Rattle.slots.specs.Record.{slotOf}
 use Rattle.slots.specs.Find.{emptySlot, newestOf}
-use Rattle.slots.specs.Facts.{used-facts, right, empty-inside}
-use Rattle.results.specs.Best.{newest-at}
+use Rattle.results.specs.Best.{newest-at, newest-used}
 use Rattle.image.specs.Shelf.{Shelf, shelf-frame}
 use Rattle.sense.specs.declared.Answer.{Answer}
 use Rattle.sense.specs.declared.Answer.the-variants.{Good}
@@ -28,6 +26,7 @@ use Rattle.command.specs.declared.Command.{Command}
 use Rattle.command.specs.Command.{mirrorOf, ndiscOf, secOf, intOf, ownOf, resolvedOf, resolvedCount, listBytes}
 use Rattle.command.specs.Length.{resolved-some, resolved-same}
 use Rattle.command.specs.Sent.{sent-exact}
+use Rattle.meaning.specs.declared.Span.{Span}
 use Rattle.meaning.specs.declared.Act.{Act}
 use Rattle.meaning.specs.declared.Act.the-variants.{Read as ToRead, Write as ToWrite, XpWrite as ToXpWrite, XdRead as ToXdRead, Couple, Retain, Rebuild as ToRebuild, Regenerate as ToRegenerate}
 use Rattle.meaning.specs.declared.Seen.{Seen}
@@ -35,7 +34,7 @@ use Rattle.meaning.specs.declared.Fault.the-variants.{Clear}
 use Rattle.meaning.specs.declared.Decision.the-variants.{Stop, Go}
 use Rattle.meaning.specs.Sources.{ownEntry, firstBad}
 use Rattle.meaning.specs.Checks.{isNothing, commandChecks, acts, resolved, spanOf, secondOf}
-use Rattle.meaning.specs.Allowed.{Blocks, Free, Sourced, Allowed}
+use Rattle.meaning.specs.Allowed.{Blocks, Held, Free, empty-free, Sourced, Allowed}
 use Rattle.licence.specs.Passed.{Passes, not-zero, with-it, without-it, found, nothing, elsewhere, clear}
 use Rattle.licence.specs.Entries.{entries}
 
@@ -52,6 +51,13 @@ worksOn (ToRegenerate x n int i) = x .drive
 
 pub no-stop : (n : ℕ) (w : Seen) (z : Answer) (x : Act) (y : Answer) → Stop n w z ≡ Go x y → ⊥
 no-stop n w z x y e = let q : _≡_ {A = ℕ} 0 1 = cc in omega arith
+
+-- the slot that answers, where its length is the span's
+pub held-at : (m : List ℕ) (g : Geometry) → Shelf m g → (x : Span) (i : ℕ) → newestOf m g (x .drive) (x .block .0) ≡ At i → slotOf m g i .len ≡ x .count → Held m g x i
+held-at m g v x i e l =
+    let n = newest-at m g (x .drive) (x .block .0) i e in
+    let u = newest-used m g (x .drive) (x .block .0) (v .slots-ok) i n in
+    record { answers = e; slot-in = n .inside; same-len = l; limited = omega (arith, u .len-high) }
 
 -- act x with answer y is granted, on drive t
 pub record Grants (m : List ℕ) (g : Geometry) (t : ℕ) (s : List ℕ) (r : ℕ) (x : Act) (y : Answer) : Type 0 where
@@ -74,7 +80,7 @@ module _ (m : List ℕ) (g : Geometry) (t : ℕ) (s : List ℕ) (r : ℕ) (v : S
   own k h l = record { range = record { drive-in = inside; range-in = l }; present = up; some = h }
 
   free : isNothing (emptySlot m g) ≡ false → Free m g (index (emptySlot m g))
-  free e = let f = found (emptySlot m g) e in let i = empty-inside m g _ f in record { takes = f; slot-in = i .0; unused = i .1 }
+  free e = empty-free m g _ (found (emptySlot m g) e)
 
   of-read : (k : Command) → Passes (commandChecks Read m g t k s r) → acts Read m g t k s ≡ Go x y → Grants m g t s r x y
   of-read k p e = just m g t s r x _ y e refl (own k (not-zero _ (p 4)) (ltb-false _ _ (p 5)), ltb-false _ _ (p 6))
@@ -87,12 +93,8 @@ module _ (m : List ℕ) (g : Geometry) (t : ℕ) (s : List ℕ) (r : ℕ) (v : S
 
   of-xdread : (k : Command) → Passes (commandChecks XdRead m g t k s r) → acts XdRead m g t k s ≡ Go x y → Grants m g t s r x y
   of-xdread k p e =
-      let f = found (newestOf m g t (k .block .0)) (p 4) in
-      let n = newest-at m g t (k .block .0) _ f in
-      let same : slotOf m g (index (newestOf m g t (k .block .0))) .len ≡ k .count = eqb-true _ _ (not-false _ (p 5)) in
-      let used = used-facts g _ _ (holds _ 0 (n .asked)) (right m g (v .slots-ok) .ok _ (n .inside)) in
       just m g t s r x _ y e refl
-      (record { answers = f; slot-in = n .inside; same-len = same; limited = omega (arith, same, used .len-high) }, ltb-false _ _ (p 6))
+      (held-at m g v (spanOf t k) _ (found (newestOf m g t (k .block .0)) (p 4)) (eqb-true _ _ (not-false _ (p 5))), ltb-false _ _ (p 6))
 
   -- with Sec Ctl 11, and without
   of-xdwrite : (k : Command) → Passes (commandChecks XdWrite m g t k s r) → acts XdWrite m g t k s ≡ Go x y → Grants m g t s r x y

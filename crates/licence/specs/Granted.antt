@@ -1,12 +1,13 @@
 -- "Checks, then effect": a decision to go grants everything that the code that acts needs. Assumes nothing.
 use Prim.Native.Nat.{ℕ}
 use mathlib.Core.List.{List}
-use mathlib.Core.Path.{_≡_, sym, ap, _∙_}
+use mathlib.Core.Path.{_≡_, sym, ap, subst, _∙_}
 use lib.ListN.{getD}
 use borrow.Author.Tests.{not-false}
 use Rattle.rules.specs.declared.Found.the-variants.{At}
 use Rattle.rules.specs.Rule.{passed}
 use Rattle.rules.specs.Least.{index}
+use Rattle.geometry.specs.declared.Geometry.{Geometry}
 use Rattle.geometry.specs.Header.{geometryOf}
 use Rattle.drives.specs.Table.{driveOf}
 use Rattle.drives.specs.Lookup.{drive-inside}
@@ -43,3 +44,7 @@ granted m a c s r x y e =
     let all = passes (commandChecks o m g t k s r) (p .1 .1 .1 .1 .1 .1) in
     let h = of-each m g t s r v (drive-inside m g a t f .0) (p .1 .1 .1 .1 .1 .0) x y o k all (w .1) in
     record { good = h .good; valid = v; target = f ∙ ap At (sym (h .drive)); allowed = h .allowed }
+
+-- by the geometry that the image is known to have
+pub allowed-at : (m : List ℕ) (g : Geometry) → Shelf m g → (a : ℕ) (c s : List ℕ) (r : ℕ) (x : Act) (y : Answer) → decideOf m a c s r ≡ Go x y → Allowed m g s r x
+allowed-at m g h a c s r x y e = subst (λ (k : Geometry). Allowed m k s r x) (h .header) (granted m a c s r x y e .allowed)

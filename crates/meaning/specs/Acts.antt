@@ -2,7 +2,7 @@
 -- read from the image before the command; stores are done in the order in which they stand. Assumes nothing.
 use Prim.Native.Nat.{ℕ, zero, suc, _+_, _*_}
 use mathlib.Core.List.{List, [], _∷_, _++_}
-use mathlib.Core.Bool.{cond}
+use mathlib.Core.Bool.{Bool, cond}
 use lib.Dec.{eqb}
 use Rattle.octets.specs.Part.{part}
 use Rattle.octets.specs.Put.{put}
@@ -15,6 +15,7 @@ use Rattle.drives.specs.Table.{driveOf}
 use Rattle.slots.specs.Record.{bytesOf}
 use Rattle.slots.specs.Slots.{usedCount}
 use Rattle.slots.specs.Change.{entry, released}
+use Rattle.command.specs.declared.Source.{Source}
 use Rattle.command.specs.Command.{sourceOf}
 use Rattle.meaning.specs.declared.Span.{Span}
 use Rattle.meaning.specs.declared.Act.{Act}
@@ -47,32 +48,47 @@ blocksOf s g x = part s (spanAt g x) (x .count * g .l)
 -- ---- XDWRITE
 
 -- "result = data XOR old blocks, or the data itself with Mirror"
+abbrev pub mixed : ℕ → List ℕ → List ℕ → List ℕ
+mixed mirror bytes old = cond (eqb mirror 0) (bytes ⊻ old) bytes
+
 abbrev pub resultOf : List ℕ → Geometry → Span → ℕ → List ℕ → List ℕ
-resultOf s g x mirror sent = cond (eqb mirror 0) (sent ⊻ blocksOf s g x) sent
+resultOf s g x mirror sent = mixed mirror sent (blocksOf s g x)
 
 -- "Sec Ctl 00 or 10: the result goes to the secondary at its block, XORed into it, or written plainly with Mirror."
+abbrev pub laid : Bool → List ℕ → List ℕ → List ℕ
+laid adds there bytes = cond adds (there ⊻ bytes) bytes
+
 abbrev pub passedOn : List ℕ → Geometry → Span → Span → ℕ → List ℕ → List ℕ
-passedOn s g x y mirror sent = cond (eqb mirror 0) (blocksOf s g y ⊻ resultOf s g x mirror sent) (resultOf s g x mirror sent)
+passedOn s g x y mirror sent = laid (eqb mirror 0) (blocksOf s g y) (resultOf s g x mirror sent)
 
 -- "NDisc 0 writes the data"; then the secondary
 abbrev pub coupled : List ℕ → Geometry → Span → Span → ℕ → List ℕ → List Store
 coupled s g x y mirror sent = store (spanAt g x) sent ∷ store (spanAt g y) (passedOn s g x y mirror sent) ∷ []
 
 -- a result in slot i: its bytes, then its record, as the newest
-abbrev pub keeping : List ℕ → Geometry → ℕ → ℕ → Span → List ℕ → List Store
-keeping s g i kind x bytes =
+abbrev pub slotStores : List ℕ → Geometry → ℕ → ℕ → Span → List ℕ → List Store
+slotStores s g i kind x bytes =
     store (dataAt g i) bytes ∷ store (slotAt g i) (bytesOf (entry (usedCount s g + 1) kind (x .drive) (x .block .0) (x .count))) ∷ []
 
--- "Sec Ctl 11: the result is retained", as kind 1
-abbrev pub written : Geometry → Span → ℕ → List ℕ → List Store
-written g x ndisc sent = cond (eqb ndisc 0) (store (spanAt g x) sent ∷ []) []
+-- with Sec Ctl 11 the data is written where NDisc is 0
+abbrev pub dataStores : Geometry → Span → ℕ → List ℕ → List Store
+dataStores g x ndisc sent = cond (eqb ndisc 0) (store (spanAt g x) sent ∷ []) []
 
 -- ---- REBUILD and REGENERATE
 
+-- the drive that a source names, where its blocks start, and so many of them
+abbrev pub homeOf : List ℕ → Geometry → Source → ℕ
+homeOf s g x = index (driveOf s g (x .address .0))
+
+abbrev pub startOf : List ℕ → Geometry → Source → ℕ
+startOf s g x = place g (homeOf s g x) (x .block .0)
+
+abbrev pub namedBlocks : List ℕ → Geometry → ℕ → Source → List ℕ
+namedBlocks s g count x = part s (startOf s g x) (count * g .l)
+
 -- the blocks that source entry i names
 abbrev pub sourceBlocks : List ℕ → Geometry → List ℕ → ℕ → ℕ → List ℕ
-sourceBlocks s g sent count i =
-    part s (place g (index (driveOf s g (sourceOf sent i .address .0))) (sourceOf sent i .block .0)) (count * g .l)
+sourceBlocks s g sent count i = namedBlocks s g count (sourceOf sent i)
 
 -- "The list is read from its first entry on": the entries left, from entry i on
 unfoldable pub sourcesFrom : List ℕ → Geometry → List ℕ → ℕ → ℕ → ℕ → List (List ℕ)
@@ -98,11 +114,12 @@ leaves s g sent (XpWrite x) = stored s (store (spanAt g x) (blocksOf s g x ⊻ s
 -- "it is no longer retained"
 leaves s g sent (XdRead x i) = released s g i
 leaves s g sent (Couple x y mirror) = stored s (coupled s g x y mirror sent)
-leaves s g sent (Retain x i mirror ndisc) = stored s (written g x ndisc sent ++ keeping s g i 1 x (resultOf s g x mirror sent))
+-- "Sec Ctl 11: the result is retained", as kind 1
+leaves s g sent (Retain x i mirror ndisc) = stored s (dataStores g x ndisc sent ++ slotStores s g i 1 x (resultOf s g x mirror sent))
 -- "REBUILD writes the XOR to the target"
 leaves s g sent (Rebuild x n int) = stored s (store (spanAt g x) (gathered s g sent (x .count) n int) ∷ [])
 -- "REGENERATE adds the target's own blocks and retains the XOR."
-leaves s g sent (Regenerate x n int i) = stored s (keeping s g i 2 x (blocksOf s g x ⊻ gathered s g sent (x .count) n int))
+leaves s g sent (Regenerate x n int i) = stored s (slotStores s g i 2 x (blocksOf s g x ⊻ gathered s g sent (x .count) n int))
 
 -- what goes to the receive room's front
 abbrev pub hands : List ℕ → Geometry → Act → List ℕ

@@ -11,6 +11,8 @@ use Rattle.geometry.specs.Places.{Range}
 use Rattle.drives.specs.Table.{driveOf, failed}
 use Rattle.slots.specs.Record.{slotOf, isUsed}
 use Rattle.slots.specs.Find.{emptySlot, newestOf}
+use Rattle.slots.specs.Facts.{empty-inside}
+use Rattle.command.specs.declared.Source.{Source}
 use Rattle.command.specs.Command.{sourceOf}
 use Rattle.meaning.specs.declared.Span.{Span}
 use Rattle.meaning.specs.declared.Act.{Act}
@@ -46,18 +48,21 @@ pub record Free (s : List ℕ) (g : Geometry) (i : ℕ) : Type 0 where
   pub slot-in : i < g .s
   pub unused : isUsed (slotOf s g i) ≡ false
 
--- entry i names blocks of another drive
-pub record Entry (s : List ℕ) (g : Geometry) (x : Span) (sent : List ℕ) (i : ℕ) : Type 0 where
+pub empty-free : (s : List ℕ) (g : Geometry) (i : ℕ) → emptySlot s g ≡ At i → Free s g i
+empty-free s g i e = let w = empty-inside s g i e in record { takes = e; slot-in = w .0; unused = w .1 }
+
+-- the source e names blocks of another drive, which is present
+pub record NamesOther (s : List ℕ) (g : Geometry) (x : Span) (e : Source) : Type 0 where
   pub drive : ℕ
-  pub found : driveOf s g (sourceOf sent i .address .0) ≡ At drive
-  pub range : Range g drive (sourceOf sent i .block .0) (x .count)
+  pub found : driveOf s g (e .address .0) ≡ At drive
+  pub range : Range g drive (e .block .0) (x .count)
   pub present : failed s g drive ≡ false
   pub other : drive ≡ x .drive → ⊥
 
 pub record Sourced (s : List ℕ) (g : Geometry) (x : Span) (n int : ℕ) (sent : List ℕ) : Type 0 where
   pub some-source : 1 ≤ n
   pub exact : length sent ≡ 8 + 8 * n + cond (eqb int 0) 0 (x .count * g .l)
-  pub each : (i : ℕ) → i < n → Entry s g x sent i
+  pub each : (i : ℕ) → i < n → NamesOther s g x (sourceOf sent i)
 
 abbrev pub Allowed : List ℕ → Geometry → List ℕ → ℕ → Act → Type 0
 Allowed s g sent room (Read x) = Blocks s g x × Roomy g x room

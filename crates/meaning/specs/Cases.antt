@@ -2,49 +2,15 @@
 use Prim.Native.Nat.{ℕ}
 use mathlib.Core.List.{List, [], _∷_, _++_}
 use lib.ListN.{replicate}
-use Rattle.image.specs.Bench.{bench}
+use Rattle.image.specs.Bench.{four, zeros, shelfOf, vacant, holding, one, two, three, bench, fresh, result, afterC2}
 use Rattle.meaning.specs.Calls.{Call, command}
-use Rattle.meaning.specs.Row.{Seen, Row, quiet, refused}
+use Rattle.meaning.specs.Row.{Showed, Row, quiet, refused}
 
-abbrev pub four : ℕ → ℕ → ℕ → ℕ → List ℕ
-four a b c d = a ∷ b ∷ c ∷ d ∷ []
-
-abbrev pub zeros : List ℕ
-zeros = four 0 0 0 0
-
--- the bench shelf with this state of drive 3, this slot and these blocks 0
-abbrev pub shelfOf : ℕ → List ℕ → List ℕ → List ℕ → List ℕ → List ℕ
-shelfOf state slot a b c =
-    four 0 0 0 3 ++ four 0 0 0 2 ++ four 0 0 0 4 ++ four 0 0 0 1 ++ four 0 0 0 2 ++ four 0 0 0 32 ++ four 0 0 0 44 ++ four 0 0 0 68
-    ++ four 0 0 0 1 ++ four 0 0 0 2 ++ four state 0 0 3 ++ slot ++ a ++ zeros ++ b ++ zeros ++ c ++ zeros
-
--- blocks 0 of drives 1, 2 and 3
-abbrev pub one : List ℕ
-one = four 0x0A 0x0B 0x0C 0x0D
-
-abbrev pub two : List ℕ
-two = four 0x01 0x02 0x03 0x04
-
-abbrev pub three : List ℕ
-three = four 0x0B 0x09 0x0F 0x09
-
--- the data of C1, the result, and drive 3's block with it
-abbrev pub fresh : List ℕ
-fresh = four 0xFF 0x00 0xFF 0x00
-
-abbrev pub result : List ℕ
-result = four 0xF5 0x0B 0xF3 0x0D
-
+-- drive 3's block with C1's result
 abbrev pub parity : List ℕ
 parity = four 0xFE 0x02 0xFC 0x04
 
--- the slot: empty; with a block of a drive retained at block 0, as the newest; with that record zeroed and its data left
-abbrev pub vacant : List ℕ
-vacant = replicate 24 0
-
-abbrev pub holding : ℕ → ℕ → List ℕ → List ℕ
-holding kind drive bytes = 0 ∷ 0 ∷ 0 ∷ 1 ∷ kind ∷ drive ∷ 0 ∷ 1 ∷ replicate 8 0 ++ bytes ++ zeros
-
+-- the slot with its record zeroed and its data left
 abbrev pub left : List ℕ → List ℕ
 left bytes = replicate 16 0 ++ bytes ++ zeros
 
@@ -55,31 +21,28 @@ xdwrite flags = 0xC0 ∷ flags ∷ 0 ∷ 0 ∷ 0 ∷ 0 ∷ 0 ∷ 1 ∷ 0 ∷ 0 �
 abbrev pub ten : ℕ → ℕ → ℕ → List ℕ
 ten code block n = code ∷ 0 ∷ 0 ∷ 0 ∷ 0 ∷ block ∷ 0 ∷ 0 ∷ n ∷ 0 ∷ []
 
-abbrev pub listed : ℕ → ℕ → List ℕ
-listed code n = code ∷ 0 ∷ 0 ∷ 0 ∷ 0 ∷ 1 ∷ 0 ∷ 0 ∷ n ∷ 0 ∷ []
+abbrev pub listCdb : ℕ → ℕ → List ℕ
+listCdb code n = code ∷ 0 ∷ 0 ∷ 0 ∷ 0 ∷ 1 ∷ 0 ∷ 0 ∷ n ∷ 0 ∷ []
 
 -- a list of n sources with own block 0, and a source at block 0
 abbrev pub head : ℕ → List ℕ
 head n = n ∷ 1 ∷ replicate 6 0
 
-abbrev pub source : ℕ → List ℕ
-source address = 0 ∷ 0 ∷ 0 ∷ address ∷ zeros
+abbrev pub sourceBytes : ℕ → List ℕ
+sourceBytes address = 0 ∷ 0 ∷ 0 ∷ address ∷ zeros
 
 abbrev pub room : List ℕ
 room = replicate 8 0xAA
 
-abbrev pub row : List ℕ → List Call → ℕ → List ℕ → List ℕ → Seen → Row
+abbrev pub row : List ℕ → List Call → ℕ → List ℕ → List ℕ → Showed → Row
 row start before target cdb sent want = record { start = start; before = before; target = target; cdb = cdb; sent = sent; room = room; want = want }
 
--- "C2 Same, byte 1 06h", and what it leaves
+-- "C2 Same, byte 1 06h"
 abbrev pub c2 : Call
 c2 = command 1 (xdwrite 0x06) fresh room
 
-abbrev pub afterC2 : List ℕ
-afterC2 = shelfOf 0 (holding 1 0 result) fresh two three
-
 -- C9: "nothing written; sense 70 00 0B 00 00 00 00 1D 00 12 .. 04 00 00 00 00 00."
-abbrev pub failedSecond : List ℕ → Seen
+abbrev pub failedSecond : List ℕ → Showed
 failedSecond image =
     record {
       number = 2;
@@ -106,9 +69,9 @@ table =
     -- C6: "C1 with byte 1 20h: 05h/24h/00h."
     ∷ row bench [] 1 (xdwrite 0x20) fresh (refused 0x05 0x24 bench room)
     -- C7: "Drive 1 block 0 zeroed, .., sources 2 and 3 at 0: drive 1 block 0 is 0A0B0C0D."
-    ∷ row (shelfOf 0 vacant zeros two three) [] 1 (listed 0xC3 0x18) (head 2 ++ source 2 ++ source 3) (quiet 0 0 bench room)
+    ∷ row (shelfOf 0 vacant zeros two three) [] 1 (listCdb 0xC3 0x18) (head 2 ++ sourceBytes 2 ++ sourceBytes 3) (quiet 0 0 bench room)
     -- C8: "To 2: REGENERATE block 0, source 3: 0A0B0C0D retained."
-    ∷ row bench [] 2 (listed 0xC4 0x10) (head 1 ++ source 3) (quiet 0 0 (shelfOf 0 (holding 2 1 one) one two three) room)
+    ∷ row bench [] 2 (listCdb 0xC4 0x10) (head 1 ++ sourceBytes 3) (quiet 0 0 (shelfOf 0 (holding 2 1 one) one two three) room)
     -- C9: "C1 with drive 3 failed"
     ∷ row (shelfOf 1 vacant one two three) [] 1 (xdwrite 0x00) fresh (failedSecond (shelfOf 1 vacant one two three))
     -- C10: "READ block 1 length 1 GOOD; length 2: 05h/21h/00h."

@@ -1,22 +1,24 @@
 -- Where the blocks of an act lie, and how long its bytes are. Assumes nothing.
 use Prim.Native.Nat.{ℕ, zero, suc, _+_, _*_, _≤_, _<_}
 use native.Mathlib.Omega.{arith}
-use mathlib.Core.Path.{_≡_, refl, ap, _∙_}
+use mathlib.Core.Path.{_≡_, refl, sym, ap, _∙_}
 use mathlib.Core.Bool.{Bool, true, false, cond}
 use mathlib.Core.List.{List, [], _∷_, _++_}
 use lib.Dec.{eqb}
 use lib.ListN.{length, length-append}
 use Rattle.octets.specs.Part.{part, length-part}
 use Rattle.octets.specs.Xor.{_⊻_, length-xor-le}
-use Rattle.octets.specs.Operands.{Long, long-append, length-xorAll-some}
+use Rattle.octets.specs.Operands.{Long, length-xorAll-some}
+use Rattle.rules.specs.Each.{each-append}
+use Rattle.rules.specs.Least.{index}
 use Rattle.geometry.specs.declared.Geometry.{Geometry}
-use Rattle.geometry.specs.Header.{place}
 use Rattle.geometry.specs.Frame.{Framed}
-use Rattle.geometry.specs.Places.{Range, place-after-media, range-room}
+use Rattle.geometry.specs.Places.{Range, place-after-media, range-room, range-long}
+use Rattle.command.specs.declared.Source.{Source}
 use Rattle.command.specs.Command.{sourceOf}
 use Rattle.meaning.specs.declared.Span.{Span}
-use Rattle.meaning.specs.Acts.{spanAt, blocksOf, resultOf, sourceBlocks, sourcesFrom, intData, gathered}
-use Rattle.meaning.specs.Allowed.{Blocks, Sourced}
+use Rattle.meaning.specs.Acts.{spanAt, blocksOf, mixed, resultOf, laid, homeOf, startOf, sourceBlocks, sourcesFrom, intData, gathered}
+use Rattle.meaning.specs.Allowed.{Blocks, NamesOther, Sourced}
 
 -- a span lies on the media, and in the image
 pub span-after-media : (g : Geometry) (x : Span) → g .media ≤ spanAt g x
@@ -25,16 +27,24 @@ span-after-media g x = place-after-media g (x .drive) (x .block .0)
 pub span-in : (s : List ℕ) (g : Geometry) (x : Span) → Framed s g → Range g (x .drive) (x .block .0) (x .count) → spanAt g x + x .count * g .l ≤ length s
 span-in s g x f r = range-room s g (x .drive) (x .block .0) (x .count) f r
 
+-- what XDWRITE's bytes become is as long as they are
+pub length-laid : (adds : Bool) (there bytes : List ℕ) → length there ≡ length bytes → length (laid adds there bytes) ≡ length bytes
+length-laid true there bytes e = length-xor-le there bytes (omega arith) ∙ e
+length-laid false there bytes e = refl
+
+pub length-mixed : (mirror : ℕ) (bytes old : List ℕ) → length old ≡ length bytes → length (mixed mirror bytes old) ≡ length bytes
+length-mixed mirror bytes old e = pick (eqb mirror 0)
+  where
+    pick : (none : Bool) → length (cond none (bytes ⊻ old) bytes) ≡ length bytes
+    pick true = length-xor-le bytes old (omega arith)
+    pick false = refl
+
 module _ (s : List ℕ) (g : Geometry) (f : Framed s g) (x : Span) (b : Blocks s g x) where
   pub length-blocks : length (blocksOf s g x) ≡ x .count * g .l
-  length-blocks = length-part s (spanAt g x) (x .count * g .l) (span-in s g x f (b .range))
+  length-blocks = range-long s g (x .drive) (x .block .0) (x .count) f (b .range)
 
   pub length-result : (mirror : ℕ) (sent : List ℕ) → length sent ≡ x .count * g .l → length (resultOf s g x mirror sent) ≡ x .count * g .l
-  length-result mirror sent e = pick (eqb mirror 0)
-    where
-      pick : (c : Bool) → length (cond c (sent ⊻ blocksOf s g x) sent) ≡ x .count * g .l
-      pick true = length-xor-le sent (blocksOf s g x) (omega (arith, length-blocks)) ∙ e
-      pick false = e
+  length-result mirror sent e = length-mixed mirror sent (blocksOf s g x) (length-blocks ∙ sym e) ∙ e
 
 -- ---- the XOR of the sources
 
@@ -61,18 +71,24 @@ module _ (s : List ℕ) (g : Geometry) (sent : List ℕ) (count : ℕ) where
       let xs = sourcesFrom s g sent count 0 n in
       let ys = intData g sent count n int in
       length-xorAll-some (count * g .l) (xs ++ ys) (omega (arith, length-append xs ys, length-sources 0 n))
-      (long-append (count * g .l) xs ys (long-sources 0 n (λ e l. each e (omega arith))) (long-int (8 + 8 * n) (eqb int 0) exact))
+      (each-append (λ (x : List ℕ). length x ≡ count * g .l) xs ys (long-sources 0 n (λ e l. each e (omega arith))) (long-int (8 + 8 * n) (eqb int 0) exact))
+
+-- one source: its blocks are those of the drive that its address names, and lie in the image
+module _ (s : List ℕ) (g : Geometry) (x : Span) (e : Source) (o : NamesOther s g x e) where
+  pub home-is : homeOf s g e ≡ o .drive
+  home-is = ap index (o .found)
+
+  pub home-range : Range g (homeOf s g e) (e .block .0) (x .count)
+  home-range = rw home-is (o .range)
+
+  pub source-in : Framed s g → startOf s g e + x .count * g .l ≤ length s
+  source-in f = range-room s g (homeOf s g e) (e .block .0) (x .count) f home-range
 
 module _ (s : List ℕ) (g : Geometry) (x : Span) (n int : ℕ) (sent : List ℕ) (f : Framed s g) (h : Sourced s g x n int sent) where
-  -- the blocks of entry i are those of the drive that its address names
-  source-is : (i : ℕ) (l : i < n) → sourceBlocks s g sent (x .count) i ≡ part s (place g (h .each i l .drive) (sourceOf sent i .block .0)) (x .count * g .l)
-  source-is i l = rw (h .each i l .found)
-
   length-source : (i : ℕ) → i < n → length (sourceBlocks s g sent (x .count) i) ≡ x .count * g .l
   length-source i l =
-      let e = h .each i l in
-      ap length (source-is i l)
-      ∙ length-part s (place g (e .drive) (sourceOf sent i .block .0)) (x .count * g .l) (range-room s g (e .drive) (sourceOf sent i .block .0) (x .count) f (e .range))
+      let e = sourceOf sent i in
+      range-long s g (homeOf s g e) (e .block .0) (x .count) f (home-range s g x e (h .each i l))
 
   -- the list is among the bytes sent, and the intermediate data follows it
   pub list-in : 8 + 8 * n ≤ length sent

@@ -1,9 +1,11 @@
 pub mod Acts
+pub mod Stores
 pub mod Allowed
 pub mod Lengths
 pub mod Sources
 pub mod Checks
 pub mod Step
+pub mod Stepped
 pub mod Calls
 pub mod Row
 pub mod Cases

@@ -7,7 +7,7 @@ use Rattle.meaning.specs.Step.{stepImage, stepRoom, stepOutcome}
 use Rattle.meaning.specs.Calls.{Call, afterCalls}
 
 -- 01's number, the byte count, the 37 sense bytes, the sense's length, the image and the room afterwards
-pub record Seen : Type 0 where
+pub record Showed : Type 0 where
   pub number : ℕ
   pub count : ℕ
   pub sense : List ℕ
@@ -22,9 +22,9 @@ pub record Row : Type 0 where
   pub cdb : List ℕ
   pub sent : List ℕ
   pub room : List ℕ
-  pub want : Seen
+  pub want : Showed
 
-abbrev pub got : Row → Seen
+abbrev pub got : Row → Showed
 got w =
     let m = afterCalls (w .before) (w .start) in
     let o = stepOutcome m (w .target) (w .cdb) (w .sent) (w .room) in
@@ -38,10 +38,10 @@ got w =
     }
 
 -- no sense; a plain one, byte for byte
-abbrev pub quiet : ℕ → ℕ → List ℕ → List ℕ → Seen
+abbrev pub quiet : ℕ → ℕ → List ℕ → List ℕ → Showed
 quiet number count image room = record { number = number; count = count; sense = replicate 37 0; len = 0; image = image; room = room }
 
-abbrev pub refused : ℕ → ℕ → List ℕ → List ℕ → Seen
+abbrev pub refused : ℕ → ℕ → List ℕ → List ℕ → Showed
 refused key code image room =
     record {
       number = 2;

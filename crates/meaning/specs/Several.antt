@@ -4,9 +4,9 @@ use Prim.Native.Nat.{ℕ}
 use mathlib.Core.List.{List, [], _∷_, _++_}
 use lib.ListN.{replicate}
 use Rattle.meaning.specs.Calls.{Call, command, reset}
-use Rattle.meaning.specs.Row.{Seen, Row, quiet, refused}
-use Rattle.image.specs.Bench.{bench}
-use Rattle.meaning.specs.Cases.{four, zeros, ten, listed, head, source, two, three, vacant, shelfOf, fresh, result, room}
+use Rattle.meaning.specs.Row.{Showed, Row, quiet, refused}
+use Rattle.image.specs.Bench.{four, zeros, shelfOf, vacant, two, three, bench, fresh, result}
+use Rattle.meaning.specs.Cases.{ten, listCdb, head, sourceBytes, room}
 use Rattle.meaning.specs.Cases.{row as benchRow}
 
 -- a record, and an empty one
@@ -55,7 +55,7 @@ abbrev again : List Call
 again = keep 0x06 0 1 fresh ∷ keep 0x06 1 1 (letter 1) ∷ xdread 0 1 ∷ keep 0x06 1 1 (letter 7) ∷ []
 
 -- an XDREAD after those calls
-abbrev row : List ℕ → List Call → ℕ → ℕ → ℕ → List ℕ → Seen → Row
+abbrev row : List ℕ → List Call → ℕ → ℕ → ℕ → List ℕ → Showed → Row
 row image before target block n lent want =
     record { start = image; before = before; target = target; cdb = ten 0xC2 block n; sent = []; room = lent; want = want }
 
@@ -83,5 +83,5 @@ several =
     ∷ row start (keep 0x06 0 1 fresh ∷ []) 1 0 1 (replicate 3 0xAA)
     (quiet 261 0 (pair (held 1 1 0 1 0 ++ result ++ zeros) (empty ++ zeros ++ zeros) fresh zeros) (replicate 3 0xAA))
     -- the target's own block is no operand of REBUILD
-    ∷ benchRow (shelfOf 0 vacant fresh two three) [] 1 (listed 0xC3 0x18) (head 2 ++ source 2 ++ source 3) (quiet 0 0 bench room)
+    ∷ benchRow (shelfOf 0 vacant fresh two three) [] 1 (listCdb 0xC3 0x18) (head 2 ++ sourceBytes 2 ++ sourceBytes 3) (quiet 0 0 bench room)
     ∷ []

@@ -50,11 +50,11 @@ stepOutcome m a c s r = outcomeAfter (decided m a c s r) m
 
 -- ---- a reset: "Reset uses 1, 2"; "Hard reset drops all results of its drive, present or failed"
 
--- the answer of the rule that decides, and what an image is left by it
+-- the answer of the rule that decides, and what a refusal leaves of an image, or of anything else: that itself
 abbrev pub answered : ℕ → Seen → Answer → Answer
 answered n w x = x
 
-abbrev pub untouched : List ℕ → ℕ → Seen → Answer → List ℕ
+abbrev pub untouched : {A : Type 0} → A → ℕ → Seen → Answer → A
 untouched m n w x = m
 
 abbrev pub target : List ℕ → ℕ → ℕ

@@ -2,7 +2,7 @@
 use mathlib.Core.Path.{_≡_, refl, sym, ap, ap₂, _∙_}
 use mathlib.Core.Logic.{_⊎_}
 use Prim.Native.Nat.{ℕ, zero, suc, _+_, _*_, _/_, _%_, _^_, _≤_, _<_}
-use native.Mathlib.Nat.{suc-inj, pow-suc, pow-succ', mod-eq-of-lt, zero-lt-suc, mod-lt, mod-one, mul-assoc, zero-add}
+use native.Mathlib.Nat.{suc-inj, pow-suc, pow-succ', mod-eq-of-lt, zero-lt-suc, mod-lt, mod-one, mul-assoc, zero-add, div-one, one-le-pow}
 use native.Mathlib.Omega.{arith}
 use mathlib.Core.List.{List, [], _∷_, _++_}
 use lib.ListN.{length, length-append}
@@ -26,10 +26,6 @@ toBe (suc n) v = v / 256 ^ n % 256 ∷ toBe n v
 abbrev pub be : ℕ → List ℕ → ℕ → ℕ
 be n xs at = num (part xs at n)
 
-pow-pos : (n : ℕ) → 0 < 256 ^ n
-pow-pos zero = zero-lt-suc 0
-pow-pos (suc n) = rw pow-suc (let h : 0 < 256 ^ n = pow-pos n in omega arith)
-
 pub num-lt : (xs : List ℕ) → Octets xs → num xs < 256 ^ length xs
 unfolding num
 num-lt [] h = zero-lt-suc 0
@@ -52,7 +48,7 @@ unfolding num toBe
 num-toBe zero v = sym (mod-one v)
 num-toBe (suc n) v =
     ap₂ (λ (a b : ℕ). v / 256 ^ n % 256 * 256 ^ a + b) (length-toBe n v) (num-toBe n v)
-    ∙ sym (mod-mul v {m = 256} {c = 256 ^ n} (zero-lt-suc 255) (pow-pos n))
+    ∙ sym (mod-mul v {m = 256} {c = 256 ^ n} (zero-lt-suc 255) (one-le-pow n 256 (zero-lt-suc 255)))
     ∙ ap (λ (k : ℕ). v % k) (sym (pow-succ' 256 n))
 
 pub num-toBe-lt : (n v : ℕ) → v < 256 ^ n → num (toBe n v) ≡ v
@@ -121,21 +117,18 @@ front-be s t n e k a l =
 
 -- ---- as the code writes it
 
-last : (v : ℕ) → v / 1 ≡ v
-last v = omega arith
-
 pub toBe1 : (v : ℕ) → toBe 1 v ≡ v % 256 ∷ []
 unfolding toBe
-toBe1 v = rw last
+toBe1 v = rw div-one
 
 pub toBe2 : (v : ℕ) → toBe 2 v ≡ v / 256 % 256 ∷ v % 256 ∷ []
 unfolding toBe
-toBe2 v = rw last
+toBe2 v = rw div-one
 
 pub toBe3 : (v : ℕ) → toBe 3 v ≡ v / 65536 % 256 ∷ v / 256 % 256 ∷ v % 256 ∷ []
 unfolding toBe
-toBe3 v = rw last
+toBe3 v = rw div-one
 
 pub toBe4 : (v : ℕ) → toBe 4 v ≡ v / 16777216 % 256 ∷ v / 65536 % 256 ∷ v / 256 % 256 ∷ v % 256 ∷ []
 unfolding toBe
-toBe4 v = rw last
+toBe4 v = rw div-one

@@ -6,6 +6,7 @@ use native.Mathlib.Omega.{arith}
 use mathlib.Core.List.{List, [], _∷_, _++_, map, List·Permᴰ, List·Permᴰ·nil, List·Permᴰ·cons, List·Permᴰ·swap, List·Permᴰ·trans}
 use lib.Bits.{bitXor}
 use lib.ListN.{length, getD, set, take}
+use Rattle.rules.specs.Each.{EachIs}
 use Rattle.octets.specs.Part.{part, part-nil}
 use Rattle.octets.specs.Xor.{_⊻_, nil-xor, xor-nil, getD-xor, length-xor, length-xor-le, xor-commutes, xor-regroups, part-xor, xor-more}
 
@@ -17,10 +18,6 @@ xorAll (x ∷ xs) = x ⊻ xorAll xs
 pub xorAll-one : (x : List ℕ) → xorAll (x ∷ []) ≡ x
 unfolding xorAll
 xorAll-one x = xor-nil x
-
-pub xorAll-cons : (x : List ℕ) (xs : List (List ℕ)) → xorAll (x ∷ xs) ≡ x ⊻ xorAll xs
-unfolding xorAll
-xorAll-cons x xs = refl
 
 pub xorAll-append : (xs ys : List (List ℕ)) → xorAll (xs ++ ys) ≡ xorAll xs ⊻ xorAll ys
 unfolding xorAll
@@ -58,12 +55,7 @@ xorAll-perm (List·Permᴰ·trans p q) = xorAll-perm p ∙ xorAll-perm q
 
 -- each operand is n bytes long
 abbrev pub Long : ℕ → List (List ℕ) → Type 0
-Long n [] = Unit {0}
-Long n (x ∷ xs) = (length x ≡ n) × Long n xs
-
-pub long-append : (n : ℕ) (xs ys : List (List ℕ)) → Long n xs → Long n ys → Long n (xs ++ ys)
-long-append n [] ys h k = k
-long-append n (x ∷ xs) ys h k = (h .0, long-append n xs ys (h .1) k)
+Long n xs = EachIs (λ (x : List ℕ). length x ≡ n) xs
 
 pub length-xorAll-le : (n : ℕ) (xs : List (List ℕ)) → Long n xs → length (xorAll xs) ≤ n
 unfolding xorAll

@@ -90,13 +90,6 @@ pub mid-part : (xs : List ℕ) (at n : ℕ) → take (at + n - at) (drop at xs) 
 unfolding part
 mid-part xs at n = let e : at + n - at ≡ n = omega arith in rw e
 
--- and `&xs[at..]`
-pub rest-part : (xs : List ℕ) (at n : ℕ) → at + n ≡ length xs → drop at xs ≡ part xs at n
-unfolding part
-rest-part xs at n h =
-    let l : length (drop at xs) ≡ n = length-drop at xs ∙ omega arith in
-    sym (ap (λ (k : ℕ). take k (drop at xs)) (sym l) ∙ take-length (drop at xs))
-
 -- the front and the end of two joined lists
 pub part-append-front : (xs ys : List ℕ) (n : ℕ) → length xs ≡ n → part (xs ++ ys) 0 n ≡ xs
 unfolding part

@@ -6,7 +6,7 @@ use native.Mathlib.Nat.{le-of-suc-le-suc, not-suc-le-zero, suc-add, zero-add}
 use native.Mathlib.Omega.{arith}
 use mathlib.Core.List.{List, [], _∷_, _++_}
 use lib.ListN.{length, getD, take, drop, set, length-take, length-drop}
-use lib.Seq.{drop-nil, take-nil, sets}
+use lib.Seq.{drop-nil, take-nil}
 use borrow.Rule.Slice.PartMut.{putMid}
 
 -- xs with ys written over it from index at on, as far as xs goes
@@ -126,14 +126,3 @@ unfolding put
 set-put [] i v = refl
 set-put (x ∷ xs) zero v = ap (λ (r : List ℕ). v ∷ r) (sym (put-nil xs zero))
 set-put (x ∷ xs) (suc i) v = ap (λ (r : List ℕ). x ∷ r) (set-put xs i v)
-
--- a run of stores is a put: `sets xs at (a ∷ b ∷ [])` computes to `set (set xs at a) (suc at) b`
-put-cons : (xs : List ℕ) (at v : ℕ) (vs : List ℕ) → put xs at (v ∷ vs) ≡ put (set xs at v) (suc at) vs
-unfolding put
-put-cons [] at v vs = refl
-put-cons (x ∷ xs) zero v vs = refl
-put-cons (x ∷ xs) (suc at) v vs = ap (λ (r : List ℕ). x ∷ r) (put-cons xs at v vs)
-
-pub sets-put : (xs : List ℕ) (at : ℕ) (vs : List ℕ) → sets xs at vs ≡ put xs at vs
-sets-put xs at [] = sym (put-nil xs at)
-sets-put xs at (v ∷ vs) = sets-put (set xs at v) (suc at) vs ∙ sym (put-cons xs at v vs)

@@ -4,7 +4,7 @@ use mathlib.Core.Path.{_≡_, refl, sym, ap, ap₂, _∙_}
 use Prim.Native.Nat.{ℕ, zero, suc, _≤_, _<_, max}
 use native.Mathlib.Nat.{le-of-suc-le-suc, not-suc-le-zero, max-zero, zero-max, suc-max-suc}
 use native.Mathlib.Omega.{arith}
-use mathlib.Core.List.{List, [], _∷_, _++_}
+use mathlib.Core.List.{List, [], _∷_}
 use lib.ListN.{length, getD, take, drop, set, replicate}
 use lib.Bits.{bitXor, xor-comm, xor-self, xor-zero-r}
 use Rattle.octets.specs.Bits.{xor-assoc}
@@ -112,14 +112,6 @@ drop-xor (suc n) (x ∷ xs) (y ∷ ys) = drop-xor n xs ys
 pub part-xor : (xs ys : List ℕ) (at n : ℕ) → part (xs ⊻ ys) at n ≡ part xs at n ⊻ part ys at n
 unfolding part
 part-xor xs ys at n = ap (take n) (drop-xor at xs ys) ∙ take-xor n (drop at xs) (drop at ys)
-
-pub append-xor : (xs ys us vs : List ℕ) → length xs ≡ length us → (xs ++ ys) ⊻ (us ++ vs) ≡ (xs ⊻ us) ++ (ys ⊻ vs)
-unfolding _⊻_
-append-xor [] ys [] vs e = refl
-append-xor [] ys (u ∷ us) vs e = absurd (let z : _≡_ {A = ℕ} 0 (suc (length us)) = e in omega arith)
-append-xor (x ∷ xs) ys [] vs e = absurd (let z : _≡_ {A = ℕ} (suc (length xs)) 0 = e in omega arith)
-append-xor (x ∷ xs) ys (u ∷ us) vs e =
-    ap (λ (r : List ℕ). bitXor x u ∷ r) (append-xor xs ys us vs (let z : suc (length xs) ≡ suc (length us) = e in omega arith))
 
 -- a turn of the loop that XORs: the store takes the XOR with j bytes to the XOR with j + 1
 pub xor-more : (d s : List ℕ) (j : ℕ) → j < length d → j < length s

@@ -3,7 +3,7 @@ use Prim.Native.Nat.{ℕ, _+_, _*_, _≤_, _<_}
 use mathlib.Core.Bool.{true, false}
 use mathlib.Core.Path.{_≡_}
 use mathlib.Core.List.{List, [], map, List·Memᴰ, List·Permᴰ}
-use lib.ListN.{length, replicate}
+use lib.ListN.{length}
 use Rattle.octets.specs.Put.{put}
 use Rattle.octets.specs.Octets.{Octets}
 use Rattle.octets.specs.Xor.{_⊻_}
@@ -13,17 +13,18 @@ use Rattle.drives.specs.Table.{addressOf, failed}
 use Rattle.results.specs.Results.{results}
 use Rattle.image.specs.Shelf.{Shelf}
 use Rattle.sums.specs.Row.{rowSum}
+use Rattle.sums.specs.Others.{others}
+use Rattle.sums.specs.OldBytes.{ZeroSums}
 use Rattle.sense.specs.declared.Answer.{Answer}
 use Rattle.sense.specs.declared.Answer.the-variants.{Good}
 use Rattle.meaning.specs.Step.{stepImage, stepOutcome, resetImage, markImage}
-use Rattle.meaning.specs.Calls.{Call, command, reset, marking}
+use Rattle.meaning.specs.Calls.{Call, command, reset, marking, runTo}
 use Rattle.callers.specs.Bytes.{Together, rebuildCdb}
 use Rattle.callers.specs.Lists.{listOf}
 use Rattle.callers.specs.Sources.{sourceAt}
 use Rattle.callers.specs.Listed.{HowLong}
-use Rattle.parity.specs.Ledger.{Line, runTo, ledgerTo, FairTo}
+use Rattle.parity.specs.Ledger.{Line, ledgerTo, FairTo}
 use Rattle.parity.specs.Owed.{isOwed, inRow, owed}
-use Rattle.parity.specs.Others.{others}
 
 -- ---- steps
 
@@ -61,10 +62,6 @@ SumsDiffer after =
     → (r : ℕ) → r < g .b → rowSum (runTo after xs m) g r ≡ rowSum m g r ⊻ owed g r (ledgerTo after xs m [])
 
 -- ---- the second half
-
--- a sum of zeros in each of the n rows from row b on
-abbrev pub ZeroSums : List ℕ → Geometry → ℕ → ℕ → Type 0
-ZeroSums m g b n = (r : ℕ) → b ≤ r → r < b + n → rowSum m g r ≡ replicate (g .l) 0
 
 -- "nothing is owed": no owed result has a byte in those rows
 abbrev pub NothingOwed : Geometry → ℕ → ℕ → List Line → Type 0

@@ -7,73 +7,83 @@ use mathlib.Core.Option.{some}
 use lib.ListN.{length, replicate}
 use Rattle.octets.specs.Xor.{_⊻_, xor-nil, xor-cancels}
 use Rattle.geometry.specs.declared.Geometry.{Geometry}
+use Rattle.drives.specs.Table.{addressOf}
 use Rattle.drives.specs.Facts.{address-lt}
+use Rattle.drives.specs.Front.{address-same}
 use Rattle.results.specs.First.{firstOf}
 use Rattle.results.specs.Results.{Result, results, resultAt}
 use Rattle.results.specs.Newest.{answers}
 use Rattle.image.specs.Shelf.{Shelf, shelf-frame}
 use Rattle.sums.specs.Row.{rowSum}
-use Rattle.sums.specs.Bytes.{length-sum}
+use Rattle.sums.specs.Length.{length-sum}
+use Rattle.sums.specs.OldBytes.{ZeroSums}
 use Rattle.sense.specs.declared.Answer.{Answer}
 use Rattle.meaning.specs.declared.Span.{Span}
-use Rattle.meaning.specs.declared.Act.{Act}
 use Rattle.meaning.specs.declared.Act.the-variants.{XdRead}
 use Rattle.meaning.specs.Acts.{hands}
 use Rattle.meaning.specs.declared.Decision.the-variants.{Go}
-use Rattle.meaning.specs.Allowed.{Allowed}
-use Rattle.meaning.specs.Step.{decided, stepImage}
+use Rattle.meaning.specs.Step.{decided, stepImage, resetImage}
 use Rattle.meaning.specs.Calls.{Call, command, reset, marking, afterCall, afterCalls}
-use Rattle.licence.specs.Granted.{granted}
+use Rattle.licence.specs.Granted.{allowed-at}
+use Rattle.demands.specs.Step.{step-shelf}
+use Rattle.demands.specs.Calls.{reset-shelf, reset-front, mark-shelf, mark-address}
 use Rattle.demands.specs.Retained.{newest-handed}
+use Rattle.callers.specs.Next.{step-front}
 use Rattle.parity.specs.Ledger.{Line, notedCall, FairCall, ledgerTo, FairTo, fair-front, ledger, Fair}
 use Rattle.parity.specs.Owed.{owed, owed-none, owed-nothing, length-owed}
 use Rattle.parity.specs.Waiting.{waiting, waiting-none}
-use Rattle.parity.specs.AnyStep.{theStep, callBy, Start, SumsDiffer, ZeroSums, Whole, Overwriting, rebuilt, BringsBack, Restores, Demand}
+use Rattle.parity.specs.AnyStep.{theStep, callBy, Start, SumsDiffer, Whole, Overwriting, rebuilt, BringsBack, Restores, Demand}
 use Rattle.parity.specs.Restores.{restored}
-use Rattle.parity.specs.OneCall.{Kept, SumKept, decision-kept, decision-sum, resets-kept, resets-sum, marks-kept, marks-sum}
+use Rattle.parity.specs.OneCall.{Tallies, SumKept, decision-tallies, decision-sum, resets-tallies, resets-sum, marks-tallies, marks-sum}
 
--- from what a decision to go grants
 module _ (g : Geometry) where
-  allowed : (m : List ℕ) → Shelf m g → (a : ℕ) (c s r : List ℕ) (x : Act) (y : Answer) → decided m a c s r ≡ Go x y → Allowed m g s (length r) x
-  allowed m h a c s r x y e = subst (λ (k : Geometry). Allowed m k s (length r) x) (h .header) (granted m a c s (length r) x y e .allowed)
+  -- ---- one call
 
-  call-kept : (m : List ℕ) (es : List Line) → Shelf m g → waiting es ≡ results m g → (x : Call) → Kept g m (afterCall x m) (notedCall x m es)
+  call-shelf : (x : Call) (m : List ℕ) → Shelf m g → Shelf (afterCall x m) g
+  call-shelf (command a c s r) m h = step-shelf m a c s r g h
+  call-shelf (reset a) m h = reset-shelf m g h a
+  call-shelf (marking a state) m h = mark-shelf m g h a state
+
+  call-address : (x : Call) (m : List ℕ) → Shelf m g → (i : ℕ) → i < g .d → addressOf (afterCall x m) g i ≡ addressOf m g i
+  call-address (command a c s r) m h = address-same (stepImage m a c s r) m g (shelf-frame m g h .placed) (step-front m a c s r g h)
+  call-address (reset a) m h = address-same (resetImage m a) m g (shelf-frame m g h .placed) (reset-front m g h a)
+  call-address (marking a state) m h = λ i l. mark-address m g h a state i
+
+  call-tallies : (x : Call) (m : List ℕ) (es : List Line) → Shelf m g → Tallies g m es → Tallies g (afterCall x m) (notedCall x m es)
   unfolding stepImage
-  call-kept m es h e (command a c s r) = decision-kept m g h es s (length r) (decided m a c s r) (allowed m h a c s r) e
-  call-kept m es h e (reset a) = resets-kept m g h es a e
-  call-kept m es h e (marking a state) = marks-kept m g h es a state e
+  call-tallies (command a c s r) m es h e = decision-tallies m g h es s (length r) (decided m a c s r) (allowed-at m g h a c s (length r)) e
+  call-tallies (reset a) m es h e = resets-tallies m g h es a e
+  call-tallies (marking a state) m es h e = marks-tallies m g h es a state e
 
-  call-sum : (m : List ℕ) (es : List Line) → Shelf m g → (x : Call) → FairCall x m es → SumKept g m es (afterCall x m) (notedCall x m es)
+  call-sum : (x : Call) (m : List ℕ) (es : List Line) → Shelf m g → FairCall x m es → SumKept g m es (afterCall x m) (notedCall x m es)
   unfolding stepImage
-  call-sum m es h (command a c s r) fair = decision-sum m g h es s (length r) (decided m a c s r) (allowed m h a c s r) fair
-  call-sum m es h (reset a) fair = resets-sum m g h es a
-  call-sum m es h (marking a state) fair = marks-sum m g h es a state
+  call-sum (command a c s r) m es h fair = decision-sum m g h es s (length r) (decided m a c s r) (allowed-at m g h a c s (length r)) fair
+  call-sum (reset a) m es h fair = resets-sum m g h es a
+  call-sum (marking a state) m es h fair = marks-sum m g h es a state
 
-  run-kept : (xs : List Call) (m : List ℕ) (es : List Line) → Shelf m g → waiting es ≡ results m g
-      → Kept g m (afterCalls xs m) (ledgerTo afterCall xs m es)
-  run-kept [] m es h e = record { shelf = h; addresses = λ i l. refl; unread = e }
-  run-kept (x ∷ xs) m es h e =
-      let k = call-kept m es h e x in
-      let w = run-kept xs (afterCall x m) (notedCall x m es) (k .shelf) (k .unread) in
-      record { shelf = w .shelf; addresses = λ i l. w .addresses i l ∙ k .addresses i l; unread = w .unread }
+  -- ---- a run
 
-  run-sums : (xs : List Call) (m : List ℕ) (es : List Line) → Shelf m g → waiting es ≡ results m g → FairTo afterCall xs m es
+  -- it keeps a valid image valid, and every drive its address
+  pub run-shelf : (xs : List Call) (m : List ℕ) → Shelf m g → Shelf (afterCalls xs m) g
+  run-shelf [] m h = h
+  run-shelf (x ∷ xs) m h = run-shelf xs (afterCall x m) (call-shelf x m h)
+
+  run-address : (xs : List Call) (m : List ℕ) → Shelf m g → (i : ℕ) → i < g .d → addressOf (afterCalls xs m) g i ≡ addressOf m g i
+  run-address [] m h i l = refl
+  run-address (x ∷ xs) m h i l = run-address xs (afterCall x m) (call-shelf x m h) i l ∙ call-address x m h i l
+
+  run-tallies : (xs : List Call) (m : List ℕ) (es : List Line) → Shelf m g → Tallies g m es → Tallies g (afterCalls xs m) (ledgerTo afterCall xs m es)
+  run-tallies [] m es h e = e
+  run-tallies (x ∷ xs) m es h e = run-tallies xs (afterCall x m) (notedCall x m es) (call-shelf x m h) (call-tallies x m es h e)
+
+  run-sums : (xs : List Call) (m : List ℕ) (es : List Line) → Shelf m g → FairTo afterCall xs m es
       → SumKept g m es (afterCalls xs m) (ledgerTo afterCall xs m es)
-  run-sums [] m es h e f r l = refl
-  run-sums (x ∷ xs) m es h e f r l =
-      let k = call-kept m es h e x in
-      run-sums xs (afterCall x m) (notedCall x m es) (k .shelf) (k .unread) (f .1) r l ∙ call-sum m es h x (f .0) r l
-
-run : (m : List ℕ) (g : Geometry) → Start m g → (xs : List Call) → Kept g m (afterCalls xs m) (ledger xs m)
-run m g start xs = run-kept g xs m [] (start .valid) (waiting-none ∙ sym (start .nothing-retained))
-
--- any run keeps a valid image valid
-pub run-valid : (m : List ℕ) (g : Geometry) → Start m g → (xs : List Call) → Shelf (afterCalls xs m) g
-run-valid m g start xs = run m g start xs .shelf
+  run-sums [] m es h f r l = refl
+  run-sums (x ∷ xs) m es h f r l = run-sums xs (afterCall x m) (notedCall x m es) (call-shelf x m h) (f .1) r l ∙ call-sum x m es h (f .0) r l
 
 -- the ledger's unread lines are the retained results, newest first: which one is read next, and what a reset drops, the image says itself
 pub ledger-is-results : (m : List ℕ) (g : Geometry) → Start m g → (xs : List Call) → waiting (ledger xs m) ≡ results (afterCalls xs m) g
-ledger-is-results m g start xs = run m g start xs .unread
+ledger-is-results m g start xs = run-tallies g xs m [] (start .valid) (waiting-none ∙ sym (start .nothing-retained))
 
 -- what XDREAD hands out is the newest unread line at its drive and block, whole
 pub read-is-newest : (m : List ℕ) (g : Geometry) → Start m g → (xs : List Call) (a : ℕ) (c s r : List ℕ) (x : Span) (i : ℕ) (y : Answer)
@@ -81,9 +91,9 @@ pub read-is-newest : (m : List ℕ) (g : Geometry) → Start m g → (xs : List 
     → (ρ : Result) × (firstOf (answers (x .drive) (x .block .0)) (waiting (ledger xs m)) ≡ some ρ) × (hands (afterCalls xs m) g (XdRead x i) ≡ ρ .bytes)
 read-is-newest m g start xs a c s r x i y e =
     let t = afterCalls xs m in
-    let k = run m g start xs in
-    let w = newest-handed t g (k .shelf) s (length r) x i (allowed g t (k .shelf) a c s r (XdRead x i) y e) in
-    (resultAt t g i, ap (firstOf (answers (x .drive) (x .block .0))) (k .unread) ∙ w .0, w .1)
+    let h = run-shelf g xs m (start .valid) in
+    let w = newest-handed t g h s (length r) x i (allowed-at t g h a c s (length r) (XdRead x i) y e) in
+    (resultAt t g i, ap (firstOf (answers (x .drive) (x .block .0))) (ledger-is-results m g start xs) ∙ w .0, w .1)
 
 -- "each row's sum differs from its first value by exactly the XOR of such results not yet carried over, unread and dropped ones included"
 pub sums-differ : (m : List ℕ) (g : Geometry) → Start m g → (xs : List Call) → Fair xs m → (r : ℕ) → r < g .b
@@ -91,10 +101,10 @@ pub sums-differ : (m : List ℕ) (g : Geometry) → Start m g → (xs : List Cal
 sums-differ m g start xs f r l =
     let t = afterCalls xs m in
     let due = owed g r (ledger xs m) in
-    let n = length-sum t g r (shelf-frame t g (run-valid m g start xs)) l in
+    let n = length-sum t g r (shelf-frame t g (run-shelf g xs m (start .valid))) l in
     sym (xor-cancels (rowSum t g r) due (omega (arith, length-owed g r (ledger xs m))))
     ∙ ap (λ (o : List ℕ). o ⊻ due)
-    (run-sums g xs m [] (start .valid) (waiting-none ∙ sym (start .nothing-retained)) f r l
+    (run-sums g xs m [] (start .valid) f r l
     ∙ ap (_⊻_ (rowSum m g r)) (owed-none g r)
     ∙ xor-nil (rowSum m g r))
 
@@ -116,9 +126,9 @@ pub rebuild-restores : (m : List ℕ) (g : Geometry) (xs : List Call) (d b n : �
     → Whole afterCall m g xs b n → Overwriting g d b n ys es sec count
     → (room : List ℕ) → BringsBack (afterCalls xs m) (rebuilt theStep (afterCalls xs m) g d b ys es sec count room)
 rebuild-restores m g xs d b n ys es sec count h w room =
-    let k = run m g (h .start) xs in
-    restored (afterCalls xs m) g (k .shelf) (h .all-present)
-    (λ e l. let a = address-lt m g (shelf-frame m g (h .start .valid)) (h .bytes) e l in omega (arith, k .addresses e l))
+    let v = h .start .valid in
+    restored (afterCalls xs m) g (run-shelf g xs m v) (h .all-present)
+    (λ e l. let a = address-lt m g (shelf-frame m g v) (h .bytes) e l in omega (arith, run-address g xs m v e l))
     d b n ys es sec count w (zero-again m g xs b n h (w .rows-in)) room
 
 -- demand 3 of the step

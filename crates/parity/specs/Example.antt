@@ -3,10 +3,10 @@ use Prim.Native.Nat.{ℕ, zero, suc}
 use native.Mathlib.Omega.{arith}
 use mathlib.Core.Bool.{true, false≢true}
 use mathlib.Core.Path.{_≡_, refl, sym, ap, subst, _∙_}
-use mathlib.Core.Logic.{inr, ⊎-elim}
-use mathlib.Core.List.{List, [], _∷_, _++_, List·Memᴰ, List·Memᴰ·head, List·Memᴰ·not-nil, List·Memᴰ·cases-cons, List·Permᴰ·swap}
-use lib.Dec.{lit≤}
-use lib.ListN.{replicate}
+use mathlib.Core.Logic.{inl, inr, ⊎-elim}
+use mathlib.Core.List.{List, [], _∷_, _++_, List·Memᴰ, List·Memᴰ·head, List·Memᴰ·not-nil, List·Memᴰ·cases-cons, List·Permᴰ·nil, List·Permᴰ·cons, List·Permᴰ·swap}
+use lib.Dec.{eqb, lit≤}
+use lib.ListN.{getD, replicate}
 use Rattle.octets.specs.Part.{part}
 use Rattle.octets.specs.Put.{put}
 use Rattle.octets.specs.Octets.{small-octets}
@@ -15,9 +15,9 @@ use Rattle.octets.specs.Operands.{xorAll}
 use Rattle.octets.specs.Number.{num, toBe}
 use Rattle.rules.specs.Every.{every}
 use Rattle.rules.specs.All.{allBelow}
+use Rattle.rules.specs.Same.{sameList}
 use Rattle.rules.specs.Count.{countBelow}
 use Rattle.rules.specs.Least.{leastBelow}
-use Rattle.geometry.specs.declared.Geometry.{Geometry}
 use Rattle.geometry.specs.Header.{rangesOk, offsetsOk, framedOk, slotAt, place}
 use Rattle.drives.specs.Table.{statesOk, newAddress, addressesOk, tableOk, driveOf, marked}
 use Rattle.slots.specs.Record.{slotOf, bytesOf}
@@ -28,10 +28,11 @@ use Rattle.results.specs.Lists.{keeping}
 use Rattle.results.specs.Results.{Result, results}
 use Rattle.results.specs.Ages.{agesTo, slotRanked}
 use Rattle.image.specs.Valid.{validImage}
-use Rattle.image.specs.Bench.{bench}
+use Rattle.image.specs.Bench.{four, zeros, shelfOf, bench, fresh, result, benchShape, bench-shelf}
 use Rattle.command.specs.Lossless.{cdbOf}
 use Rattle.sums.specs.Row.{summedTo, rowSum}
 use Rattle.sums.specs.Share.{share}
+use Rattle.sums.specs.OldBytes.{ZeroSums}
 use Rattle.sense.specs.declared.Answer.the-variants.{Good}
 use Rattle.command.specs.Command.{opOf, sixteenOf, tenOf, listedOf, ownOf, resolvedOf, listBytes, sourceOf}
 use Rattle.meaning.specs.declared.Span.{Span}
@@ -40,18 +41,14 @@ use Rattle.meaning.specs.Sources.{ownEntry, driveBad, entryBad, firstBad}
 use Rattle.meaning.specs.Checks.{decideOf}
 use Rattle.meaning.specs.Step.{stepImage, stepOutcome, resetImage, markImage}
 use Rattle.meaning.specs.Calls.{Call, command, reset, marking, afterCall, afterCalls}
-use Rattle.meaning.specs.Cases.{four, zeros, shelfOf, one, fresh, result, left, xdwrite, ten, room}
+use Rattle.meaning.specs.Cases.{left, xdwrite, ten, room}
 use Rattle.parity.specs.Ledger.{Read, Dropped, Carried, Line, line, Carries, fair-front, Fair, ledger}
-use Rattle.parity.specs.Owed.{isOwed, owed}
-use Rattle.parity.specs.AnyStep.{Start, ZeroSums, NothingOwed, AllPresent, Whole, Overwriting, theStep, rebuilt, done}
-
--- "D 3, B 2, L 4, S 1, M 2; image 92 bytes, slots at 44, media at 68"
-abbrev pub benchShape : Geometry
-benchShape = record { d = 3; b = 2; l = 4; s = 1; m = 2; table = 32; slots = 44; media = 68 }
+use Rattle.parity.specs.Owed.{isOwed, inRow, owed}
+use Rattle.parity.specs.AnyStep.{Start, NothingOwed, AllPresent, Whole, Overwriting, theStep, rebuilt, done}
 
 pub bench-start : Start bench benchShape
-unfolding validImage framedOk rangesOk offsetsOk tableOk statesOk newAddress addressesOk slotsOk eachOk ranksOk slotOk slotOf slotAt every allBelow countBelow part num results agesTo slotRanked leastBelow
-bench-start = record { valid = record { header = refl; framed-ok = refl; table-ok = refl; slots-ok = refl }; nothing-retained = refl }
+unfolding slotOf slotAt part num results agesTo slotRanked leastBelow countBelow
+bench-start = record { valid = bench-shelf; nothing-retained = refl }
 
 -- ---- a run that pays
 
@@ -81,17 +78,21 @@ paidLedger = line (ofFirst result) true Carried ∷ []
 abbrev pub losing : List Call
 losing = paying ++ command 1 (xdwrite 0x06) zeros room ∷ reset 1 ∷ []
 
+abbrev pub lostImage : List ℕ
+lostImage = shelfOf 0 (left fresh) zeros (four 0x11 0x22 0x33 0x44) (four 0xEE 0x22 0xCC 0x44)
+
 abbrev pub lostLedger : List Line
 lostLedger = line (ofFirst fresh) true Dropped ∷ paidLedger
 
 pub run-computed :
     (afterCalls paying bench ≡ paidImage)
     × (ledger paying bench ≡ paidLedger)
+    × (afterCalls losing bench ≡ lostImage)
     × (ledger losing bench ≡ lostLedger)
-    × (rowSum (afterCalls losing bench) benchShape 0 ≡ fresh)
+    × (rowSum lostImage benchShape 0 ≡ fresh)
     × (owed benchShape 0 lostLedger ≡ fresh)
-unfolding decideOf stepImage resetImage markImage validImage framedOk rangesOk offsetsOk tableOk statesOk newAddress addressesOk slotsOk eachOk ranksOk slotOk slotOf slotAt place every allBelow countBelow leastBelow driveOf emptySlot newestOf bestOf better released lowered lowerOne dropped droppedTo dropOne marked bytesOf part put num toBe _⊻_ xorAll opOf sixteenOf tenOf rowSum summedTo owed keeping share
-run-computed = (refl, refl, refl, refl, refl)
+unfolding decideOf stepImage resetImage markImage validImage framedOk rangesOk offsetsOk tableOk statesOk newAddress addressesOk slotsOk eachOk ranksOk slotOk slotOf slotAt place every allBelow sameList countBelow leastBelow driveOf emptySlot newestOf bestOf better released lowered lowerOne dropped droppedTo dropOne marked bytesOf part put num toBe _⊻_ xorAll opOf sixteenOf tenOf rowSum summedTo owed keeping share
+run-computed = (refl, refl, refl, refl, refl, refl)
 
 -- block 0 of drive 3
 abbrev pub third : Span
@@ -116,11 +117,11 @@ carried = carries (line (ofFirst result) true Read ∷ []) (List·Memᴰ·head r
 
 -- it is a run of the demand
 pub losing-fair : Fair losing bench
-unfolding decideOf stepImage resetImage markImage validImage framedOk rangesOk offsetsOk tableOk statesOk newAddress addressesOk slotsOk eachOk ranksOk slotOk slotOf slotAt place every allBelow countBelow leastBelow driveOf emptySlot newestOf bestOf better released lowered lowerOne dropped droppedTo dropOne marked bytesOf part put num toBe _⊻_ xorAll opOf sixteenOf tenOf
+unfolding decideOf stepImage resetImage markImage validImage framedOk rangesOk offsetsOk tableOk statesOk newAddress addressesOk slotsOk eachOk ranksOk slotOk slotOf slotAt place every allBelow sameList countBelow leastBelow driveOf emptySlot newestOf bestOf better released lowered lowerOne dropped droppedTo dropOne marked bytesOf part put num toBe _⊻_ xorAll opOf sixteenOf tenOf
 losing-fair =
     ((λ e. refl), (tt, (tt, (tt, (tt, (carried, ((refl, refl), ((λ e. refl), (tt, tt)))))))))
 
--- ---- nothing is owed, and drive 2 comes back
+-- ---- nothing is owed, and both blocks of drive 2 come back
 
 pub bench-zero : ZeroSums bench benchShape 0 2
 unfolding rowSum summedTo place part _⊻_
@@ -133,11 +134,12 @@ none-owed e m t r lo hi =
     ⊎-elim (λ (q : e ≡ line (ofFirst result) true Carried). absurd (false≢true (sym (ap isOwed q) ∙ t)))
     (λ k. absurd (List·Memᴰ·not-nil k)) (List·Memᴰ·cases-cons m)
 
-all-up : AllPresent paidImage benchShape
-all-up zero l = refl
-all-up (suc zero) l = refl
-all-up (suc (suc zero)) l = refl
-all-up (suc (suc (suc e))) l = absurd (omega arith)
+-- three drives, each present
+pub present : (m : List ℕ) → getD m 32 0 ≡ 0 → getD m 36 0 ≡ 0 → getD m 40 0 ≡ 0 → AllPresent m benchShape
+present m a b c zero l = ap (λ (x : ℕ). eqb x 1) a
+present m a b c (suc zero) l = ap (λ (x : ℕ). eqb x 1) b
+present m a b c (suc (suc zero)) l = ap (λ (x : ℕ). eqb x 1) c
+present m a b c (suc (suc (suc e))) l = absurd (omega arith)
 
 pub paying-whole : Whole afterCall bench benchShape paying 0 2
 paying-whole =
@@ -147,7 +149,7 @@ paying-whole =
       fair = fair-front afterCall paying (command 1 (xdwrite 0x06) zeros room ∷ reset 1 ∷ []) bench [] losing-fair;
       began-zero = bench-zero;
       nothing-owed = subst (NothingOwed benchShape 0 2) (sym (run-computed .1)) none-owed;
-      all-present = subst (λ (m : List ℕ). AllPresent m benchShape) (sym (run-computed .0)) all-up;
+      all-present = subst (λ (m : List ℕ). AllPresent m benchShape) (sym (run-computed .0)) (present paidImage refl refl refl);
     }
 
 -- both rows, from drives 1 and 3 in this order, to the last block, Sec Ctl 10
@@ -166,6 +168,46 @@ both-rows =
       how-long = inr (refl, refl);
     }
 
-pub rebuilt-computed : rebuilt theStep paidImage benchShape 1 0 junk (0 ∷ 2 ∷ []) 2 0xFFFFFFFF room ≡ done paidImage Good
+-- ---- after the reset row 0 is owed for good; nothing is owed in row 1, and drive 2's block there comes back
+
+-- no line of the ledger has bytes past row 0
+one-owed : NothingOwed benchShape 1 1 lostLedger
+unfolding share part
+one-owed e m t zero lo hi = absurd (omega arith)
+one-owed e m t (suc zero) lo hi =
+    ⊎-elim (λ (q : e ≡ line (ofFirst fresh) true Dropped). ap (inRow benchShape 1) q)
+    (λ k. ⊎-elim (λ (q : e ≡ line (ofFirst result) true Carried). ap (inRow benchShape 1) q)
+    (λ n. absurd (List·Memᴰ·not-nil n)) (List·Memᴰ·cases-cons k)) (List·Memᴰ·cases-cons m)
+one-owed e m t (suc (suc r)) lo hi = absurd (omega arith)
+
+pub losing-whole : Whole afterCall bench benchShape losing 1 1
+losing-whole =
+    record {
+      start = bench-start;
+      bytes = small-octets bench refl;
+      fair = losing-fair;
+      began-zero = λ r lo hi. bench-zero r (omega arith) (omega arith);
+      nothing-owed = subst (NothingOwed benchShape 1 1) (sym (run-computed .3)) one-owed;
+      all-present = subst (λ (m : List ℕ). AllPresent m benchShape) (sym (run-computed .2)) (present lostImage refl refl refl);
+    }
+
+-- row 1, from drives 3 and 1 in this order, the length written out, Sec Ctl 00
+pub one-row : Overwriting benchShape 1 1 1 zeros (2 ∷ 0 ∷ []) 0 1
+one-row =
+    record {
+      drive-in = lit≤ tt;
+      some-rows = lit≤ tt;
+      rows-in = lit≤ tt;
+      as-long = refl;
+      every-other = List·Permᴰ·cons refl (List·Permᴰ·cons refl List·Permᴰ·nil);
+      together = inl refl;
+      how-long = inl refl;
+    }
+
+-- ---- both, computed
+
+pub rebuilt-computed :
+    (rebuilt theStep paidImage benchShape 1 0 junk (0 ∷ 2 ∷ []) 2 0xFFFFFFFF room ≡ done paidImage Good)
+    × (rebuilt theStep lostImage benchShape 1 1 zeros (2 ∷ 0 ∷ []) 0 1 room ≡ done lostImage Good)
 unfolding cdbOf decideOf stepImage stepOutcome validImage framedOk rangesOk offsetsOk tableOk statesOk newAddress addressesOk slotsOk eachOk ranksOk slotOk slotOf slotAt place every allBelow countBelow leastBelow driveOf part put num toBe _⊻_ xorAll sourcesFrom gathered opOf listedOf ownOf resolvedOf listBytes sourceOf ownEntry driveBad entryBad firstBad
-rebuilt-computed = refl
+rebuilt-computed = (refl, refl)

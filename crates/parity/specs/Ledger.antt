@@ -6,21 +6,20 @@ use mathlib.Core.Path.{_≡_}
 use lib.Dec.{eqb}
 use Rattle.octets.specs.Xor.{_⊻_}
 use Rattle.rules.specs.Every.{every}
+use Rattle.rules.specs.Same.{sameList}
 use Rattle.rules.specs.Rule.{first}
 use Rattle.geometry.specs.declared.Geometry.{Geometry}
 use Rattle.geometry.specs.Header.{geometryOf}
 use Rattle.results.specs.Results.{Result}
 use Rattle.results.specs.Newest.{answers}
-use Rattle.sense.specs.declared.Answer.{Answer}
 use Rattle.meaning.specs.declared.Span.{Span}
-use Rattle.meaning.specs.declared.Seen.{Seen}
 use Rattle.meaning.specs.declared.Act.{Act}
 use Rattle.meaning.specs.declared.Act.the-variants.{Read as ToRead, Write, XpWrite, XdRead, Couple, Retain, Rebuild, Regenerate}
 use Rattle.meaning.specs.declared.Decision.{Decision}
 use Rattle.meaning.specs.declared.Decision.the-variants.{Stop, Go}
 use Rattle.meaning.specs.Acts.{blocksOf, resultOf, gathered}
 use Rattle.meaning.specs.Checks.{calls}
-use Rattle.meaning.specs.Step.{decided, target}
+use Rattle.meaning.specs.Step.{decided, untouched, target}
 use Rattle.meaning.specs.Calls.{Call, command, reset, marking, afterCall}
 use Rattle.demands.specs.Leaves.{resultIn}
 
@@ -76,12 +75,6 @@ waits drive block e = every (isUnread (e .fate) ∷ answers drive block (e .resu
 abbrev pub waitsOn : ℕ → Line → Bool
 waitsOn drive e = every (isUnread (e .fate) ∷ eqb (e .result .drive) drive ∷ [])
 
-abbrev pub sameBytes : List ℕ → List ℕ → Bool
-sameBytes [] [] = true
-sameBytes [] (y ∷ ys) = false
-sameBytes (x ∷ xs) [] = false
-sameBytes (x ∷ xs) (y ∷ ys) = cond (eqb x y) (sameBytes xs ys) false
-
 -- read, owed, and just these bytes at these blocks
 abbrev pub carriable : Span → List ℕ → Line → Bool
 carriable x sent e =
@@ -90,7 +83,7 @@ carriable x sent e =
     ∷ isRead (e .fate)
     ∷ eqb (e .result .block) (x .block .0)
     ∷ eqb (e .result .len) (x .count)
-    ∷ sameBytes (e .result .bytes) sent
+    ∷ sameList (e .result .bytes) sent
     ∷ [])
 
 -- what an act changes: "a medium-changing XDWRITE" has NDisc 0; of lines that are alike XPWRITE carries one, no matter which
@@ -109,13 +102,9 @@ abbrev pub notedBy : Decision → List ℕ → List ℕ → List Line → List L
 notedBy (Stop n w x) m sent es = es
 notedBy (Go act x) m sent es = noted m (geometryOf m) sent act es
 
--- what a rule of checks 1 and 2 leaves of the ledger
-abbrev pub untold : List Line → ℕ → Seen → Answer → List Line
-untold es n w x = es
-
 abbrev pub notedCall : Call → List ℕ → List Line → List Line
 notedCall (command a c s r) m es = notedBy (decided m a c s r) m s es
-notedCall (reset a) m es = first (untold es) (calls m a) (onEach (waitsOn (target m a)) (become Dropped) es)
+notedCall (reset a) m es = first (untouched es) (calls m a) (onEach (waitsOn (target m a)) (become Dropped) es)
 notedCall (marking a state) m es = es
 
 -- ---- what a run may hold
@@ -155,10 +144,6 @@ FairCall (marking a state) m es = Unit {0}
 -- ---- runs, of any function that says what a call leaves of an image
 
 module _ (after : Call → List ℕ → List ℕ) where
-  abbrev pub runTo : List Call → List ℕ → List ℕ
-  runTo [] m = m
-  runTo (x ∷ xs) m = runTo xs (after x m)
-
   abbrev pub ledgerTo : List Call → List ℕ → List Line → List Line
   ledgerTo [] m es = es
   ledgerTo (x ∷ xs) m es = ledgerTo xs (after x m) (notedCall x m es)

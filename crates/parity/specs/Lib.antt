@@ -3,9 +3,7 @@ pub mod Owed
 pub mod Waiting
 pub mod OneAct
 pub mod OneCall
-pub mod Others
 pub mod AnyStep
-pub mod OldBytes
 pub mod Restores
 pub mod Demand
 pub mod Example

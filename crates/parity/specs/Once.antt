@@ -10,6 +10,7 @@ use Rattle.octets.specs.Operands.{xorAll}
 use Rattle.octets.specs.Number.{num, toBe}
 use Rattle.rules.specs.Every.{every}
 use Rattle.rules.specs.All.{allBelow}
+use Rattle.rules.specs.Same.{sameList}
 use Rattle.rules.specs.Count.{countBelow}
 use Rattle.rules.specs.Least.{leastBelow}
 use Rattle.geometry.specs.Header.{rangesOk, offsetsOk, framedOk, slotAt, place}
@@ -20,17 +21,17 @@ use Rattle.slots.specs.Find.{emptySlot, better, bestOf, newestOf}
 use Rattle.slots.specs.Change.{released, lowerOne, lowered}
 use Rattle.results.specs.Lists.{keeping}
 use Rattle.image.specs.Valid.{validImage}
-use Rattle.image.specs.Bench.{bench}
+use Rattle.image.specs.Bench.{zeros, one, bench, fresh, result, benchShape}
 use Rattle.sums.specs.Row.{summedTo, rowSum}
 use Rattle.sums.specs.Share.{share}
 use Rattle.command.specs.Command.{opOf, sixteenOf, tenOf}
 use Rattle.meaning.specs.Checks.{decideOf}
 use Rattle.meaning.specs.Step.{stepImage}
 use Rattle.meaning.specs.Calls.{Call, command, afterCalls}
-use Rattle.meaning.specs.Cases.{zeros, one, fresh, result, xdwrite, ten, room}
+use Rattle.meaning.specs.Cases.{xdwrite, ten, room}
 use Rattle.parity.specs.Ledger.{Fate, Read, Carried, Line, line, isRead, Carries, Fair, ledger}
 use Rattle.parity.specs.Owed.{owed}
-use Rattle.parity.specs.Example.{benchShape, ofFirst, third, carries}
+use Rattle.parity.specs.Example.{ofFirst, third, carries}
 
 -- drive 1 gets new data and then its old block back; both results are read
 abbrev pub twice : List Call
@@ -57,11 +58,11 @@ pub twice-computed :
     × (rowSum (afterCalls (twice ++ carry ∷ []) bench) benchShape 0 ≡ result)
     × (ledger (twice ++ carry ∷ carry ∷ []) bench ≡ pair Carried Carried)
     × (rowSum (afterCalls (twice ++ carry ∷ carry ∷ []) bench) benchShape 0 ≡ zeros)
-unfolding decideOf stepImage validImage framedOk rangesOk offsetsOk tableOk statesOk newAddress addressesOk slotsOk eachOk ranksOk slotOk slotOf slotAt place every allBelow countBelow leastBelow driveOf emptySlot newestOf bestOf better released lowered lowerOne bytesOf part put num toBe _⊻_ xorAll opOf sixteenOf tenOf rowSum summedTo owed keeping share
+unfolding decideOf stepImage validImage framedOk rangesOk offsetsOk tableOk statesOk newAddress addressesOk slotsOk eachOk ranksOk slotOk slotOf slotAt place every allBelow sameList countBelow leastBelow driveOf emptySlot newestOf bestOf better released lowered lowerOne bytesOf part put num toBe _⊻_ xorAll opOf sixteenOf tenOf rowSum summedTo owed keeping share
 twice-computed = (refl, refl, refl, refl, refl, refl, refl)
 
 pub twice-fair : Fair (twice ++ carry ∷ carry ∷ []) bench
-unfolding decideOf stepImage validImage framedOk rangesOk offsetsOk tableOk statesOk newAddress addressesOk slotsOk eachOk ranksOk slotOk slotOf slotAt place every allBelow countBelow leastBelow driveOf emptySlot newestOf bestOf better released lowered lowerOne bytesOf part put num toBe _⊻_ xorAll opOf sixteenOf tenOf
+unfolding decideOf stepImage validImage framedOk rangesOk offsetsOk tableOk statesOk newAddress addressesOk slotsOk eachOk ranksOk slotOk slotOf slotAt place every allBelow sameList countBelow leastBelow driveOf emptySlot newestOf bestOf better released lowered lowerOne bytesOf part put num toBe _⊻_ xorAll opOf sixteenOf tenOf
 twice-fair =
     ((λ e. refl), (tt, ((λ e. refl), (tt, (carries (pair Read Read) (List·Memᴰ·head refl), (carries (pair Carried Read) (List·Memᴰ·tail (List·Memᴰ·head refl)), tt))))))
 
@@ -74,5 +75,5 @@ spent c =
     (List·Memᴰ·cases-cons (c .listed))
 
 pub thrice-not : Fair (twice ++ carry ∷ carry ∷ carry ∷ []) bench → ⊥
-unfolding decideOf stepImage validImage framedOk rangesOk offsetsOk tableOk statesOk newAddress addressesOk slotsOk eachOk ranksOk slotOk slotOf slotAt place every allBelow countBelow leastBelow driveOf emptySlot newestOf bestOf better released lowered lowerOne bytesOf part put num toBe _⊻_ xorAll opOf sixteenOf tenOf
+unfolding decideOf stepImage validImage framedOk rangesOk offsetsOk tableOk statesOk newAddress addressesOk slotsOk eachOk ranksOk slotOk slotOf slotAt place every allBelow sameList countBelow leastBelow driveOf emptySlot newestOf bestOf better released lowered lowerOne bytesOf part put num toBe _⊻_ xorAll opOf sixteenOf tenOf
 thrice-not f = spent (f .1 .1 .1 .1 .1 .1 .0)

@@ -5,40 +5,35 @@ use native.Mathlib.Omega.{arith}
 use mathlib.Core.Bool.{Bool, true, false, _&&_, cond, true≢false}
 use mathlib.Core.Path.{_≡_, refl, sym, ap, ap₂, _∙_}
 use mathlib.Core.Logic.{inr, ⊎-elim}
-use mathlib.Core.List.{List, [], _∷_, _++_}
+use mathlib.Core.List.{List, [], _∷_}
 use lib.Dec.{eqb}
 use lib.ListN.{length}
 use borrow.Author.Tests.{eq-eqb, eqb-true}
 use Rattle.octets.specs.Put.{put}
 use Rattle.octets.specs.Xor.{_⊻_, length-xor-le, xor-commutes, xor-regroups, xor-cancels, xor-meets, xor-again}
 use Rattle.rules.specs.Cases.{either}
-use Rattle.rules.specs.declared.Found.the-variants.{At}
 use Rattle.geometry.specs.declared.Geometry.{Geometry}
 use Rattle.geometry.specs.Header.{place}
 use Rattle.geometry.specs.Frame.{Framed}
 use Rattle.geometry.specs.Places.{place-after-media}
 use Rattle.geometry.specs.Written.{other-drive}
-use Rattle.slots.specs.Find.{emptySlot}
-use Rattle.slots.specs.Kept.{media-empty}
 use Rattle.results.specs.First.{sansFirst}
-use Rattle.results.specs.Results.{Result, Sound, results, withResult}
+use Rattle.results.specs.Results.{Result, results}
 use Rattle.results.specs.Newest.{answers}
-use Rattle.results.specs.Retain.{retain-away}
 use Rattle.image.specs.Shelf.{Shelf, shelf-frame}
 use Rattle.image.specs.Keeps.{shelf-written}
 use Rattle.sums.specs.Row.{rowSum}
-use Rattle.sums.specs.Bytes.{length-sum}
+use Rattle.sums.specs.Length.{length-sum}
 use Rattle.sums.specs.Share.{share, length-share}
 use Rattle.sums.specs.Change.{sum-same, sum-put}
 use Rattle.meaning.specs.declared.Span.{Span}
 use Rattle.meaning.specs.declared.Act.{Act}
 use Rattle.meaning.specs.declared.Act.the-variants.{Read as ToRead, Write, XpWrite, XdRead, Couple, Retain, Rebuild, Regenerate}
-use Rattle.meaning.specs.Acts.{store, stored, spanAt, blocksOf, resultOf, keeping, leaves}
+use Rattle.meaning.specs.Acts.{spanAt, blocksOf, resultOf, leaves}
 use Rattle.meaning.specs.Allowed.{Blocks, Filled, Allowed}
 use Rattle.meaning.specs.Lengths.{span-after-media, length-blocks}
-use Rattle.demands.specs.Leaves.{resultIn, written-keeping}
-use Rattle.demands.specs.Valid.{retained-sound}
-use Rattle.demands.specs.Beside.{Beside, leaves-beside}
+use Rattle.demands.specs.Leaves.{resultIn}
+use Rattle.demands.specs.Beside.{Beside, retain-beside, leaves-beside}
 use Rattle.demands.specs.Retained.{afterwards, results-after}
 use Rattle.parity.specs.Ledger.{Unread, Line, line, noted, Carries, FairAct}
 use Rattle.parity.specs.Owed.{owed, owed-hit, owed-miss, owed-read, owed-carried}
@@ -120,32 +115,10 @@ module _ (m : List ℕ) (g : Geometry) (h : Shelf m g) (sent : List ℕ) (es : L
     -- the data written, the result in its slot: the slot is no part of a sum
     retain-sum : (room : ℕ) (x : Span) (i mirror ndisc : ℕ) → Allowed m g sent room (Retain x i mirror ndisc) → eqb ndisc 0 ≡ true
         → rowSum (leaves m g sent (Retain x i mirror ndisc)) g r ≡ rowSum (put m (spanAt g x) sent) g r
-    retain-sum room x i mirror ndisc (b, e, l, v) q = pick (eqb ndisc 0) q
-      where
-        res : List ℕ
-        res = resultOf m g x mirror sent
-
-        media : g .media ≤ spanAt g x
-        media = span-after-media g x
-
-        w : List ℕ
-        w = put m (spanAt g x) sent
-
-        hw : Shelf w g
-        hw = shelf-written m g h (spanAt g x) sent media
-
-        fresh : emptySlot w g ≡ At i
-        fresh = media-empty m g (spanAt g x) sent (f .placed) media ∙ v .takes
-
-        sound : Sound g (resultIn 1 x res)
-        sound = retained-sound m g h sent x mirror b e l
-
-        pick : (c : Bool) → c ≡ true → rowSum (stored m (cond c (store (spanAt g x) sent ∷ []) [] ++ keeping m g i 1 x res)) g r ≡ rowSum w g r
-        pick false k = absurd (true≢false (sym k))
-        pick true k =
-            ap (λ (t : List ℕ). rowSum t g r) (written-keeping m g i 1 (spanAt g x) x sent res (f .placed) media (v .takes))
-            ∙ sum-same w (withResult w g (resultIn 1 x res)) g r
-            (λ d ld. retain-away w g (shelf-frame w g hw) (hw .slots-ok) i fresh (resultIn 1 x res) sound (place g d r) (g .l) (inr (place-after-media g d r)))
+    retain-sum room x i mirror ndisc al q =
+        sum-same (put m (spanAt g x) (cond (eqb ndisc 0) sent [])) (leaves m g sent (Retain x i mirror ndisc)) g r
+        (λ d ld. retain-beside m g h sent (place g d r) (g .l) room x i mirror ndisc al (inr (place-after-media g d r)))
+        ∙ ap (λ (c : Bool). rowSum (put m (spanAt g x) (cond c sent [])) g r) q
 
     xd-sum : (room : ℕ) (x : Span) (i mirror ndisc : ℕ) → Allowed m g sent room (Retain x i mirror ndisc) → (ndisc ≡ 0 → mirror ≡ 0)
         → rowSum (leaves m g sent (Retain x i mirror ndisc)) g r ⊻ owed g r (noted m g sent (Retain x i mirror ndisc) es) ≡ sum ⊻ owed g r es

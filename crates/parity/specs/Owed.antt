@@ -5,18 +5,18 @@ use mathlib.Core.Bool.{Bool, true, false, not, _&&_, cond, true≢false, and-fal
 use mathlib.Core.Path.{_≡_, refl, sym, ap, ap₂, _∙_}
 use mathlib.Core.Logic.{⊎-elim}
 use mathlib.Core.List.{List, [], _∷_, map, List·Memᴰ, List·Memᴰ·head, List·Memᴰ·tail, List·Memᴰ·not-nil, List·Memᴰ·cases-cons}
-use lib.Dec.{eqb}
 use lib.ListN.{length}
 use borrow.Author.Tests.{eq-eqb, eqb-true}
 use Rattle.octets.specs.Xor.{_⊻_, nil-xor, length-xor, xor-commutes, xor-regroups}
 use Rattle.octets.specs.Operands.{xorAll}
 use Rattle.rules.specs.Cases.{either}
 use Rattle.rules.specs.Every.{holds, every-of}
+use Rattle.rules.specs.Same.{sameList, same-list, same-self}
 use Rattle.geometry.specs.declared.Geometry.{Geometry}
 use Rattle.results.specs.Lists.{keeping, keep-hit, keep-miss}
 use Rattle.sums.specs.Share.{share, length-share}
 use Rattle.meaning.specs.declared.Span.{Span}
-use Rattle.parity.specs.Ledger.{Fate, Unread, Read, Dropped, Carried, Line, become, isUnread, isRead, isCarried, onFirst, onEach, waits, waitsOn, sameBytes, carriable, Carries}
+use Rattle.parity.specs.Ledger.{Fate, Unread, Read, Dropped, Carried, Line, become, isUnread, isRead, isCarried, onFirst, onEach, waits, waitsOn, carriable, Carries}
 
 -- "such results not yet carried over, unread and dropped ones included"
 abbrev pub isOwed : Line → Bool
@@ -106,18 +106,6 @@ module _ (g : Geometry) (r : ℕ) where
 
 -- ---- a line carried
 
-same-bytes : (xs ys : List ℕ) → sameBytes xs ys ≡ true → xs ≡ ys
-same-bytes [] [] e = refl
-same-bytes [] (y ∷ ys) e = absurd (true≢false (sym e))
-same-bytes (x ∷ xs) [] e = absurd (true≢false (sym e))
-same-bytes (x ∷ xs) (y ∷ ys) e =
-    ⊎-elim (λ (t : eqb x y ≡ true). ap₂ (λ (a : ℕ) (l : List ℕ). a ∷ l) (eqb-true x y t) (same-bytes xs ys (rw t at e)))
-    (λ (t : eqb x y ≡ false). absurd (true≢false (sym (rw t at e)))) (either (eqb x y))
-
-bytes-same : (xs : List ℕ) → sameBytes xs xs ≡ true
-bytes-same [] = refl
-bytes-same (x ∷ xs) = rw (eq-eqb x x refl) (bytes-same xs)
-
 module _ (g : Geometry) (r : ℕ) (x : Span) (sent : List ℕ) where
   read-is : (f : Fate) → isRead f ≡ true → isCarried f ≡ false
   read-is Unread t = absurd (true≢false (sym t))
@@ -129,7 +117,7 @@ module _ (g : Geometry) (r : ℕ) (x : Span) (sent : List ℕ) where
   was-owed : (e : Line) → carriable x sent e ≡ true → owedBy g r e ≡ share g (x .block .0) sent r
   was-owed e t =
       ap₂ (λ (b c : Bool). cond (b && not c) (inRow g r e) []) (holds _ 0 t) (read-is (e .fate) (holds _ 1 t))
-      ∙ ap₂ (λ (b : ℕ) (ys : List ℕ). share g b ys r) (eqb-true _ _ (holds _ 2 t)) (same-bytes _ _ (holds _ 4 t))
+      ∙ ap₂ (λ (b : ℕ) (ys : List ℕ). share g b ys r) (eqb-true _ _ (holds _ 2 t)) (same-list _ _ (holds _ 4 t))
 
   -- and is owed no more
   now-paid : (e : Line) → isOwed (become Carried e) ≡ false
@@ -161,7 +149,7 @@ module _ (g : Geometry) (r : ℕ) (x : Span) (sent : List ℕ) where
         c .owed,
         (
           ap isRead (c .read),
-          (eq-eqb _ _ (c .same-block), (eq-eqb _ _ (c .same-len), (ap (λ (ys : List ℕ). sameBytes ys sent) (c .same-bytes) ∙ bytes-same sent, tt))),
+          (eq-eqb _ _ (c .same-block), (eq-eqb _ _ (c .same-len), (ap (λ (ys : List ℕ). sameList ys sent) (c .same-bytes) ∙ same-self sent, tt))),
         ),
       )
 

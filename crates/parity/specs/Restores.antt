@@ -3,7 +3,7 @@
 use Prim.Native.Nat.{ℕ, suc, _*_, _<_}
 use native.Mathlib.Omega.{arith}
 use mathlib.Core.Bool.{false}
-use mathlib.Core.Path.{_≡_, refl, ap, subst, _∙_}
+use mathlib.Core.Path.{_≡_, refl, sym, ap, subst, _∙_}
 use mathlib.Core.Logic.{inl}
 use mathlib.Core.List.{List, [], map, map-map, append-nil}
 use lib.ListN.{length, length-map}
@@ -12,6 +12,7 @@ use Rattle.octets.specs.PutPut.{put-put, put-part}
 use Rattle.octets.specs.Operands.{xorAll}
 use Rattle.rules.specs.declared.Found.{Found}
 use Rattle.rules.specs.declared.Found.the-variants.{At}
+use Rattle.rules.specs.Each.{EachIs, each-mem, each-map, perm-length, perm-each}
 use Rattle.rules.specs.Least.{index}
 use Rattle.geometry.specs.declared.Geometry.{Geometry}
 use Rattle.geometry.specs.Header.{place}
@@ -22,20 +23,21 @@ use Rattle.drives.specs.Table.{addressOf, failed, driveOf}
 use Rattle.drives.specs.Facts.{table-addresses}
 use Rattle.drives.specs.Front.{SameFront, front-put, failed-same, drive-same}
 use Rattle.drives.specs.Lookup.{drive-found}
+use Rattle.results.specs.Lists.{map-same}
 use Rattle.image.specs.Shelf.{Shelf, shelf-frame}
 use Rattle.image.specs.Keeps.{shelf-written}
+use Rattle.sums.specs.Others.{Other, others-each, length-others}
+use Rattle.sums.specs.OldBytes.{ZeroSums, rowsOf, old-bytes, length-rows}
 use Rattle.sense.specs.declared.Outcome.{Outcome}
 use Rattle.command.specs.declared.Source.{Source}
+use Rattle.meaning.specs.Acts.{namedBlocks}
 use Rattle.callers.specs.Bytes.{rebuildCdb}
-use Rattle.callers.specs.Each.{EachIs, each-map, map-each}
 use Rattle.callers.specs.Lists.{listOf}
 use Rattle.callers.specs.Does.{blocks, Does}
 use Rattle.callers.specs.Sources.{Names, sourceAt}
 use Rattle.callers.specs.Listed.{together-byte}
-use Rattle.callers.specs.Operands.{named, operands, rebuild-lists}
-use Rattle.parity.specs.Others.{Other, perm-length, perm-each, others-each, length-others}
-use Rattle.parity.specs.AnyStep.{theStep, ZeroSums, AllPresent, Overwriting, overwritten, rebuilt, BringsBack}
-use Rattle.parity.specs.OldBytes.{rowsOf, old-bytes, length-rows}
+use Rattle.callers.specs.Operands.{operands, rebuild-lists}
+use Rattle.parity.specs.AnyStep.{theStep, AllPresent, Overwriting, overwritten, rebuilt, BringsBack}
 
 module _ (m : List ℕ) (g : Geometry) (h : Shelf m g) (up : AllPresent m g) (small : (e : ℕ) → e < g .d → addressOf m g e < 4294967296)
     (d b n : ℕ) (ys es : List ℕ) (sec count : ℕ) (w : Overwriting g d b n ys es sec count) where
@@ -74,12 +76,14 @@ module _ (m : List ℕ) (g : Geometry) (h : Shelf m g) (up : AllPresent m g) (sm
   names : (e : ℕ) → Other (g .d) d e → Names t g (blocks d b n) (sourceAt m g b e)
   names e o =
       record {
-        drive = e;
-        found = found e (o .0);
+        there = record {
+          drive = e;
+          found = found e (o .0);
+          range = record { drive-in = o .0; range-in = w .rows-in };
+          present = present e (o .0);
+          other = o .1;
+        };
         small = small e (o .0);
-        range = record { drive-in = o .0; range-in = w .rows-in };
-        present = present e (o .0);
-        other = o .1;
       }
 
   -- the other drives' blocks are as before
@@ -89,15 +93,15 @@ module _ (m : List ℕ) (g : Geometry) (h : Shelf m g) (up : AllPresent m g) (sm
   abbrev sources : List Source
   sources = map (sourceAt m g b) es
 
-  named-rows : (e : ℕ) → Other (g .d) d e → named t g n (sourceAt m g b e) ≡ rowsOf m g b n e
+  named-rows : (e : ℕ) → Other (g .d) d e → namedBlocks t g n (sourceAt m g b e) ≡ rowsOf m g b n e
   named-rows e o = ap (λ (x : Found). rowsOf t g b n (index x)) (found e (o .0)) ∙ same-rows e o
 
   -- what is gathered are the old bytes
   gathers : ZeroSums m g b n → xorAll (operands t g n sources 0 []) ≡ rowsOf m g b n d
   gathers zeros =
-      ap xorAll (append-nil (map (named t g n) sources)
-      ∙ map-map (named t g n) (sourceAt m g b) es
-      ∙ map-each (λ (e : ℕ). named t g n (sourceAt m g b e)) (Other (g .d) d) (rowsOf m g b n) named-rows es each)
+      ap xorAll (append-nil (map (namedBlocks t g n) sources)
+      ∙ map-map (namedBlocks t g n) (sourceAt m g b) es
+      ∙ map-same (λ (e : ℕ). namedBlocks t g n (sourceAt m g b e)) (rowsOf m g b n) es (λ e k. named-rows e (each-mem (Other (g .d) d) es each e k)))
       ∙ old-bytes m g f b n d range es (w .every-other) zeros
 
   -- and so it writes them
@@ -119,4 +123,4 @@ module _ (m : List ℕ) (g : Geometry) (h : Shelf m g) (up : AllPresent m g) (sm
 
   -- from zero sums alone, whatever was done before
   pub restored : ZeroSums m g b n → (room : List ℕ) → BringsBack m (rebuilt theStep m g d b ys es sec count room)
-  restored zeros room = record { good = ap (λ (x : Outcome). x .answer) (does room .outcome); back = does room .image ∙ writes zeros }
+  restored zeros room = record { good = ap (λ (x : Outcome). x .answer) (sym (does room .outcome)); back = sym (does room .image) ∙ writes zeros }

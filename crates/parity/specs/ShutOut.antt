@@ -1,9 +1,9 @@
 -- Steps that demand 3 shuts out. Assumes nothing.
-use Prim.Native.Nat.{ℕ, zero, suc, _-_}
+use Prim.Native.Nat.{ℕ, zero, suc, _<_}
 use native.Mathlib.Omega.{arith}
 use mathlib.Core.Path.{_≡_, refl, sym, ap, _∙_}
 use mathlib.Core.List.{List, [], _∷_, List·Memᴰ·not-nil}
-use lib.Dec.{eqb, lit≤}
+use lib.Dec.{lit≤}
 use lib.ListN.{getD}
 use Rattle.octets.specs.Part.{part}
 use Rattle.octets.specs.Put.{put}
@@ -13,6 +13,7 @@ use Rattle.octets.specs.Operands.{xorAll}
 use Rattle.octets.specs.Number.{num, toBe}
 use Rattle.rules.specs.Every.{every}
 use Rattle.rules.specs.All.{allBelow}
+use Rattle.rules.specs.Same.{sameList}
 use Rattle.rules.specs.Count.{countBelow}
 use Rattle.rules.specs.Least.{leastBelow}
 use Rattle.geometry.specs.declared.Geometry.{Geometry}
@@ -26,9 +27,10 @@ use Rattle.results.specs.Lists.{keeping}
 use Rattle.results.specs.Results.{results}
 use Rattle.results.specs.Ages.{agesTo, slotRanked}
 use Rattle.image.specs.Valid.{validImage}
-use Rattle.image.specs.Bench.{bench}
+use Rattle.image.specs.Bench.{zeros, shelfOf, vacant, two, bench, fresh, result, benchShape}
 use Rattle.sums.specs.Row.{summedTo, rowSum}
 use Rattle.sums.specs.Share.{share}
+use Rattle.sums.specs.OldBytes.{ZeroSums}
 use Rattle.sense.specs.declared.Answer.{Answer}
 use Rattle.sense.specs.declared.Answer.the-variants.{Good}
 use Rattle.command.specs.Command.{opOf, sixteenOf, tenOf, listedOf, ownOf, resolvedOf, listBytes, sourceOf}
@@ -43,10 +45,10 @@ use Rattle.meaning.specs.Sources.{ownEntry, driveBad, entryBad, firstBad}
 use Rattle.meaning.specs.Checks.{decideOf}
 use Rattle.meaning.specs.Step.{decided, stepOutcome}
 use Rattle.meaning.specs.Calls.{Call, command}
-use Rattle.meaning.specs.Cases.{shelfOf, vacant, zeros, two, fresh, result, xdwrite, ten, room}
+use Rattle.meaning.specs.Cases.{xdwrite, ten, room}
 use Rattle.parity.specs.Owed.{owed}
-use Rattle.parity.specs.AnyStep.{AnyStep, done, callBy, Start, SumsDiffer, ZeroSums, AllPresent, Whole, Restores}
-use Rattle.parity.specs.Example.{benchShape, bench-start, bench-zero, carried, junk, both-rows}
+use Rattle.parity.specs.AnyStep.{AnyStep, done, callBy, Start, SumsDiffer, AllPresent, Whole, Restores}
+use Rattle.parity.specs.Example.{bench-start, bench-zero, present, carried, junk, both-rows}
 
 -- ---- two images to try a step on
 
@@ -66,12 +68,6 @@ at-once m start bytes z up after =
       nothing-owed = λ e k. absurd (List·Memᴰ·not-nil k);
       all-present = up;
     }
-
-present : (m : List ℕ) → getD m 32 0 ≡ 0 → getD m 36 0 ≡ 0 → getD m 40 0 ≡ 0 → AllPresent m benchShape
-present m a b c zero l = ap (λ (x : ℕ). eqb x 1) a
-present m a b c (suc zero) l = ap (λ (x : ℕ). eqb x 1) b
-present m a b c (suc (suc zero)) l = ap (λ (x : ℕ). eqb x 1) c
-present m a b c (suc (suc (suc e))) l = absurd (omega arith)
 
 on-bench : (after : Call → List ℕ → List ℕ) → Whole after bench benchShape [] 0 2
 on-bench = at-once bench bench-start (small-octets bench refl) bench-zero (present bench refl refl refl)
@@ -160,16 +156,28 @@ onXpWrite f y (Retain x i mirror ndisc) = y
 onXpWrite f y (Rebuild x n int) = y
 onXpWrite f y (Regenerate x n int i) = y
 
--- a REBUILD that leaves its last source out
-abbrev pub missing : Acting
-missing s g sent act = onRebuild (λ x n int. put s (spanAt g x) (gathered s g sent (x .count) (n - 1) int)) (leaves s g sent act) act
+-- a list but for its element i
+abbrev pub sansAt : ℕ → List (List ℕ) → List (List ℕ)
+sansAt i [] = []
+sansAt zero (x ∷ xs) = xs
+sansAt (suc i) (x ∷ xs) = x ∷ sansAt i xs
 
-pub missing-not : Restores (callBy (actingBy missing)) (actingBy missing) → ⊥
+-- a REBUILD that leaves source i out
+abbrev pub missing : ℕ → Acting
+missing i s g sent act = onRebuild (λ x n int. put s (spanAt g x) (xorAll (sansAt i (sourcesFrom s g sent (x .count) 0 n)))) (leaves s g sent act) act
+
+-- of two, the first or the last
+pub missing-not : (i : ℕ) → i < 2 → Restores (callBy (actingBy (missing i))) (actingBy (missing i)) → ⊥
 unfolding cdbOf decideOf stepOutcome validImage framedOk rangesOk offsetsOk tableOk statesOk newAddress addressesOk slotsOk eachOk ranksOk slotOk slotOf slotAt place every allBelow countBelow leastBelow driveOf part put num toBe _⊻_ xorAll sourcesFrom gathered opOf listedOf ownOf resolvedOf listBytes sourceOf ownEntry driveBad entryBad firstBad
-missing-not h =
-    let x = h bench benchShape [] 1 0 2 junk (0 ∷ 2 ∷ []) 2 0xFFFFFFFF (on-bench (callBy (actingBy missing))) both-rows room .back in
-    let z : _≡_ {A = ℕ} 10 1 = ap (λ (l : List ℕ). getD l 76 0) x in
+missing-not zero l h =
+    let x = h bench benchShape [] 1 0 2 junk (0 ∷ 2 ∷ []) 2 0xFFFFFFFF (on-bench (callBy (actingBy (missing 0)))) both-rows room .back in
+    let z : _≡_ {A = ℕ} 11 1 = ap (λ (b : List ℕ). getD b 76 0) x in
     omega arith
+missing-not (suc zero) l h =
+    let x = h bench benchShape [] 1 0 2 junk (0 ∷ 2 ∷ []) 2 0xFFFFFFFF (on-bench (callBy (actingBy (missing 1)))) both-rows room .back in
+    let z : _≡_ {A = ℕ} 10 1 = ap (λ (b : List ℕ). getD b 76 0) x in
+    omega arith
+missing-not (suc (suc i)) l h = absurd (omega arith)
 
 -- "Counting the target among REBUILD's operands."
 abbrev pub counting : Acting
@@ -199,7 +207,7 @@ abbrev pub storing : Acting
 storing s g sent act = onXpWrite (λ x. put s (spanAt g x) sent) (leaves s g sent act) act
 
 pub storing-not : SumsDiffer (callBy (actingBy storing)) → ⊥
-unfolding decideOf stepOutcome validImage framedOk rangesOk offsetsOk tableOk statesOk newAddress addressesOk slotsOk eachOk ranksOk slotOk slotOf slotAt place every allBelow countBelow leastBelow driveOf emptySlot newestOf bestOf better released lowered lowerOne bytesOf part put num toBe _⊻_ xorAll opOf sixteenOf tenOf rowSum summedTo owed keeping share
+unfolding decideOf stepOutcome validImage framedOk rangesOk offsetsOk tableOk statesOk newAddress addressesOk slotsOk eachOk ranksOk slotOk slotOf slotAt place every allBelow sameList countBelow leastBelow driveOf emptySlot newestOf bestOf better released lowered lowerOne bytesOf part put num toBe _⊻_ xorAll opOf sixteenOf tenOf rowSum summedTo owed keeping share
 storing-not h =
     let calls = command 1 (xdwrite 0x06) fresh room ∷ command 1 (ten 0xC2 0 1) [] room ∷ command 3 (ten 0xC1 0 1) result room ∷ [] in
     let x = h bench benchShape bench-start calls ((λ e. refl), (tt, (carried, tt))) 0 (lit≤ tt) in

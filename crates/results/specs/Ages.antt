@@ -11,8 +11,7 @@ use Rattle.rules.specs.Least.{index, leastBelow}
 use Rattle.geometry.specs.declared.Geometry.{Geometry}
 use Rattle.slots.specs.declared.Slot.{Slot}
 use Rattle.slots.specs.Record.{zeroSlot}
-use Rattle.slots.specs.Slots.{hasRank}
-use Rattle.slots.specs.Facts.{usedIn}
+use Rattle.slots.specs.Slots.{usedIn, hasRank}
 use Rattle.slots.specs.Change.{entry}
 use Rattle.results.specs.Lists.{keeping}
 

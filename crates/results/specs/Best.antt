@@ -16,8 +16,8 @@ use Rattle.rules.specs.Least.{at-nothing, at-same}
 use Rattle.geometry.specs.declared.Geometry.{Geometry}
 use Rattle.slots.specs.declared.Best.{Best}
 use Rattle.slots.specs.Record.{slotOf}
-use Rattle.slots.specs.Slots.{slotsOk}
-use Rattle.slots.specs.Facts.{right}
+use Rattle.slots.specs.Slots.{usedCount, slotsOk}
+use Rattle.slots.specs.Facts.{Used, right}
 use Rattle.slots.specs.Find.{wanted, better, bestOf, newestOf}
 use Rattle.slots.specs.Ranks.{used-at}
 
@@ -72,6 +72,10 @@ module _ (s : List ℕ) (g : Geometry) (drive block : ℕ) where
       let h = best-is (g .s) in
       let r = h .some i e in
       record { inside = r .0; asked = r .1; most = λ j l w. omega (arith, h .most j l w, r .2) }
+
+  -- a slot with a result's record
+  pub newest-used : slotsOk s g ≡ true → (i : ℕ) → Newest s g drive block i → Used g (usedCount s g) (slotOf s g i)
+  newest-used ok i n = used-at g (slotOf s g) (right s g ok) i (n .inside) (holds _ 0 (n .asked))
 
   pub newest-nothing : slotsOk s g ≡ true → newestOf s g drive block ≡ Nothing → (j : ℕ) → j < g .s → wanted drive block (slotOf s g j) ≡ false
   unfolding newestOf

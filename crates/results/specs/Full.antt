@@ -1,18 +1,18 @@
 -- "Something to retain and no empty slot": as many results are retained as there are slots.
 -- Assumes nothing.
-use Prim.Native.Nat.{ℕ, _<_}
+use Prim.Native.Nat.{ℕ}
 use mathlib.Core.Bool.{true, not}
 use mathlib.Core.Path.{_≡_, _∙_}
 use mathlib.Core.List.{List}
 use lib.ListN.{length, length-map}
 use borrow.Author.Tests.{not-false}
-use Rattle.rules.specs.declared.Found.the-variants.{At, Nothing}
-use Rattle.rules.specs.Count.{count-all, count-less}
+use Rattle.rules.specs.declared.Found.the-variants.{Nothing}
+use Rattle.rules.specs.Count.{count-all}
 use Rattle.rules.specs.Least.{least-nothing}
 use Rattle.geometry.specs.declared.Geometry.{Geometry}
 use Rattle.slots.specs.Record.{slotOf, isUsed}
 use Rattle.slots.specs.Slots.{usedCount, slotsOk}
-use Rattle.slots.specs.Facts.{empty-inside, right}
+use Rattle.slots.specs.Facts.{right}
 use Rattle.slots.specs.Find.{emptySlot}
 use Rattle.results.specs.Members.{length-ages}
 use Rattle.results.specs.Results.{resultAt, byAge, results}
@@ -27,6 +27,3 @@ module _ (s : List ℕ) (g : Geometry) (ok : slotsOk s g ≡ true) where
   full e =
       length-results
       ∙ count-all (λ i. isUsed (slotOf s g i)) (g .s) (λ i l. not-false _ (least-nothing (λ j. not (isUsed (slotOf s g j))) (g .s) e i l))
-
-  pub not-full : (x : ℕ) → emptySlot s g ≡ At x → length (results s g) < g .s
-  not-full x e = let w = empty-inside s g x e in rw length-results (count-less (λ i. isUsed (slotOf s g i)) (g .s) x (w .0) (w .1))

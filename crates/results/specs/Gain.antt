@@ -8,12 +8,12 @@ use mathlib.Core.Path.{_≡_, sym, ap, ap₂, _∙_}
 use mathlib.Core.Logic.{⊎-elim}
 use mathlib.Core.List.{List, _∷_}
 use Rattle.rules.specs.Cases.{either, same, last-or-below}
-use Rattle.rules.specs.Count.{countBelow, count-ext, count-gone, count-just}
+use Rattle.rules.specs.Count.{count-ext, count-gone, count-just}
 use Rattle.geometry.specs.declared.Geometry.{Geometry}
 use Rattle.slots.specs.declared.Slot.{Slot}
 use Rattle.slots.specs.Record.{isUsed}
-use Rattle.slots.specs.Slots.{hasRank, slotOk}
-use Rattle.slots.specs.Facts.{Used, used-ok, usedIn, Right}
+use Rattle.slots.specs.Slots.{slotOk, usedIn, hasRank, rankedIn}
+use Rattle.slots.specs.Facts.{Used, used-ok, Right}
 use Rattle.slots.specs.Ranks.{has-rank, not-rank, used-is, used-at, used-ranked, empty-any}
 use Rattle.results.specs.Ages.{agesTo, ages}
 use Rattle.results.specs.Ranks.{ranked-only, ranked-same, ages-same, ages-more}
@@ -62,7 +62,7 @@ module _ (g : Geometry) (f f′ : ℕ → Slot) (x : ℕ) (h : Right g f) (c : G
   top-rank : hasRank (usedIn g f + 1) (f′ x) ≡ true
   top-rank = has-rank (usedIn g f + 1) (f′ x) new-used (c .top)
 
-  gain-once : (n : ℕ) → n < usedIn g f + 1 → countBelow (g .s) (λ i. hasRank (n + 1) (f′ i)) ≡ 1
+  gain-once : (n : ℕ) → n < usedIn g f + 1 → rankedIn g f′ (n + 1) ≡ 1
   gain-once n l =
       ⊎-elim (λ e. rw e (count-just (λ i. hasRank (usedIn g f + 1) (f′ i)) (g .s) x (c .inside) top-rank new-rank))
       (λ lt. count-ext (λ i. hasRank (n + 1) (f′ i)) (λ i. hasRank (n + 1) (f i)) (g .s) (old-rank (n + 1) (omega arith)) ∙ h .once n lt)

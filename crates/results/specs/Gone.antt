@@ -9,12 +9,12 @@ use mathlib.Core.Logic.{⊎-elim}
 use mathlib.Core.List.{List, _∷_}
 use borrow.Author.Tests.{eq-eqb, ne-eqb}
 use Rattle.rules.specs.Cases.{either, same, order, agree}
-use Rattle.rules.specs.Count.{countBelow, count-ext, count-gone}
+use Rattle.rules.specs.Count.{count-ext, count-gone}
 use Rattle.geometry.specs.declared.Geometry.{Geometry}
 use Rattle.slots.specs.declared.Slot.{Slot}
 use Rattle.slots.specs.Record.{isUsed, zeroSlot}
-use Rattle.slots.specs.Slots.{hasRank, slotOk}
-use Rattle.slots.specs.Facts.{Used, used-ok, empty-is, zero-ok, usedIn, Right}
+use Rattle.slots.specs.Slots.{slotOk, usedIn, hasRank, rankedIn}
+use Rattle.slots.specs.Facts.{Used, used-ok, empty-is, zero-ok, Right}
 use Rattle.slots.specs.Ranks.{has-rank, rank-has, not-rank, used-at, rank-apart, used-ranked}
 use Rattle.results.specs.Lists.{keep-none, keep-hit, keep-miss}
 use Rattle.results.specs.Ages.{slotRanked, agesTo, ages, without}
@@ -68,7 +68,7 @@ module _ (g : Geometry) (f f′ : ℕ → Slot) (x : ℕ) (h : Right g f) (c : L
       (λ t. let b = rank-has m (f j) t in has-rank n (lowerSlot r (f j)) (b .0) (before-lower r (f j .rank) (other-rank j l ne (b .0)) n (b .1))))
       (same j x)
 
-  gone-once : (n : ℕ) → n < usedIn g f′ → countBelow (g .s) (λ i. hasRank (n + 1) (f′ i)) ≡ 1
+  gone-once : (n : ℕ) → n < usedIn g f′ → rankedIn g f′ (n + 1) ≡ 1
   gone-once n l =
       let r = f x .rank in
       count-ext (λ i. hasRank (n + 1) (f′ i)) (λ i. hasRank (rankBefore r (n + 1)) (f i)) (g .s) (moved (n + 1))

@@ -12,7 +12,8 @@ use Rattle.rules.specs.Cases.{order}
 use Rattle.geometry.specs.declared.Geometry.{Geometry}
 use Rattle.slots.specs.declared.Slot.{Slot}
 use Rattle.slots.specs.Record.{isUsed}
-use Rattle.slots.specs.Facts.{usedIn, Right}
+use Rattle.slots.specs.Slots.{usedIn}
+use Rattle.slots.specs.Facts.{Right}
 use Rattle.slots.specs.Ranks.{used-at}
 use Rattle.results.specs.Ages.{slotRanked, agesTo, ages}
 use Rattle.results.specs.Ranks.{ranked-is, ranked-at}

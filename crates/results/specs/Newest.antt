@@ -17,8 +17,8 @@ use Rattle.geometry.specs.declared.Geometry.{Geometry}
 use Rattle.geometry.specs.Frame.{Framed}
 use Rattle.slots.specs.declared.Slot.{Slot}
 use Rattle.slots.specs.Record.{slotOf, isUsed}
-use Rattle.slots.specs.Slots.{slotsOk}
-use Rattle.slots.specs.Facts.{usedIn, Right, right}
+use Rattle.slots.specs.Slots.{usedIn, slotsOk}
+use Rattle.slots.specs.Facts.{Right, right}
 use Rattle.slots.specs.Find.{wanted, newestOf}
 use Rattle.slots.specs.Change.{released}
 use Rattle.slots.specs.Ranks.{used-at}
@@ -28,7 +28,7 @@ use Rattle.results.specs.Ages.{slotRanked, agesTo, without}
 use Rattle.results.specs.Ranks.{ranked-is, ranked-at}
 use Rattle.results.specs.Members.{aged-in, ages-in}
 use Rattle.results.specs.Results.{Result, resultAt, byAge, results}
-use Rattle.results.specs.Best.{newest-at, newest-nothing}
+use Rattle.results.specs.Best.{newest-at, newest-used, newest-nothing}
 use Rattle.results.specs.Release.{release-results}
 
 -- ---- over slots
@@ -89,7 +89,7 @@ module _ (s : List ℕ) (g : Geometry) (ok : slotsOk s g ≡ true) (drive block 
   first-newest i e =
       let w = newest-at s g drive block i e in
       let u : isUsed (slotOf s g i) ≡ true = holds _ 0 (w .asked) in
-      let v = used-at g (slotOf s g) (right s g ok) i (w .inside) u in
+      let v = newest-used s g drive block ok i w in
       first-aged g (slotOf s g) (right s g ok) (wantedAt s g drive block) i (w .inside) u (w .asked) (w .most) (usedIn g (slotOf s g))
       (v .rank-high) (omega arith)
 

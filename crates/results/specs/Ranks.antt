@@ -11,8 +11,8 @@ use Rattle.rules.specs.Least.{index, least-only, least-ext}
 use Rattle.geometry.specs.declared.Geometry.{Geometry}
 use Rattle.slots.specs.declared.Slot.{Slot}
 use Rattle.slots.specs.Record.{isUsed}
-use Rattle.slots.specs.Slots.{hasRank}
-use Rattle.slots.specs.Facts.{usedIn, Right}
+use Rattle.slots.specs.Slots.{usedIn, hasRank}
+use Rattle.slots.specs.Facts.{Right}
 use Rattle.slots.specs.Ranks.{has-rank, rank-has, not-rank, rank-apart}
 use Rattle.results.specs.Ages.{slotRanked, agesTo}
 

@@ -1,6 +1,6 @@
 -- A result that goes: the slots stay right, it alone is taken out of the results, and no byte outside the slots' records changes.
 -- Assumes nothing.
-use Prim.Native.Nat.{ℕ, _+_, _*_, _^_, _<_}
+use Prim.Native.Nat.{ℕ, _*_, _^_, _<_}
 use native.Mathlib.Omega.{arith}
 use mathlib.Core.Bool.{true, not}
 use mathlib.Core.Path.{_≡_, ap, _∙_}
@@ -29,7 +29,7 @@ use Rattle.slots.specs.Ranks.{used-at}
 use Rattle.results.specs.Lists.{map-keeping}
 use Rattle.results.specs.Ages.{without}
 use Rattle.results.specs.Lower.{lowerRank, lowerSlot, lower-below}
-use Rattle.results.specs.Gone.{Lost, gone-count, gone-right, gone-ages}
+use Rattle.results.specs.Gone.{Lost, gone-right, gone-ages}
 use Rattle.results.specs.Members.{ages-in}
 use Rattle.results.specs.Results.{resultAt, byAge, results, result-same}
 use Rattle.results.specs.Lowered.{length-lowered, lowered-part, lowered-below}
@@ -87,9 +87,6 @@ module _ (s : List ℕ) (g : Geometry) (f : Framed s g) (ok : slotsOk s g ≡ tr
 
       pub release-ok : slotsOk (released s g x) g ≡ true
       release-ok = right-ok (released s g x) g (gone-right g _ _ x (right s g ok) gone)
-
-      pub release-count : usedCount s g ≡ usedCount (released s g x) g + 1
-      release-count = gone-count g _ _ x (right s g ok) gone
 
       left : (i : ℕ) → i < g .s → isUsed (slotOf s g i) ≡ true → (i ≡ x → ⊥) → resultAt (released s g x) g i ≡ resultAt s g i
       left i li ui ne =

@@ -29,12 +29,12 @@ pub record Result : Type 0 where
   pub bytes : List ℕ
 
 -- what a record and its data hold
-abbrev pub resultOf : Slot → List ℕ → Result
-resultOf r bytes = record { kind = r .kind; drive = r .drive; block = r .block .0; len = r .len; bytes = bytes }
+abbrev pub slotResult : Slot → List ℕ → Result
+slotResult r bytes = record { kind = r .kind; drive = r .drive; block = r .block .0; len = r .len; bytes = bytes }
 
 -- slot i's: "its bytes fill the front of the slot"
 unfoldable pub resultAt : List ℕ → Geometry → ℕ → Result
-resultAt s g i = resultOf (slotOf s g i) (part s (dataAt g i) (slotOf s g i .len * g .l))
+resultAt s g i = slotResult (slotOf s g i) (part s (dataAt g i) (slotOf s g i .len * g .l))
 
 -- an image's used slots, and their results
 abbrev pub byAge : List ℕ → Geometry → List ℕ
@@ -64,7 +64,7 @@ pub record Sound (g : Geometry) (r : Result) : Type 0 where
 pub result-same : (s s′ : List ℕ) (g : Geometry) (i m : ℕ) → slotOf s′ g i ≡ ranked m (slotOf s g i)
     → part s′ (dataAt g i) (slotOf s g i .len * g .l) ≡ part s (dataAt g i) (slotOf s g i .len * g .l) → resultAt s′ g i ≡ resultAt s g i
 unfolding resultAt
-result-same s s′ g i m e d = ap (λ (t : Slot). resultOf t (part s′ (dataAt g i) (t .len * g .l))) e ∙ ap (resultOf (slotOf s g i)) d
+result-same s s′ g i m e d = ap (λ (t : Slot). slotResult t (part s′ (dataAt g i) (t .len * g .l))) e ∙ ap (slotResult (slotOf s g i)) d
 
 -- what a right image retains is sound
 module _ (s : List ℕ) (g : Geometry) (f : Framed s g) (ok : slotsOk s g ≡ true) where

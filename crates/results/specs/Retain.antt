@@ -28,9 +28,9 @@ use Rattle.slots.specs.Change.{entered, retained}
 use Rattle.slots.specs.Stored.{slot-put, slot-other}
 use Rattle.slots.specs.Ranks.{used-at}
 use Rattle.results.specs.Lists.{map-same}
-use Rattle.results.specs.Gain.{Gained, gain-count, gain-right, gain-ages}
+use Rattle.results.specs.Gain.{Gained, gain-right, gain-ages}
 use Rattle.results.specs.Members.{ages-in}
-use Rattle.results.specs.Results.{Result, resultOf, resultAt, byAge, results, recordAt, withResult, Sound, result-same}
+use Rattle.results.specs.Results.{Result, slotResult, resultAt, byAge, results, recordAt, withResult, Sound, result-same}
 
 -- its record, and slot x filled with it
 abbrev newRecord : List ℕ → Geometry → Result → Slot
@@ -121,14 +121,11 @@ module _ (s : List ℕ) (g : Geometry) (f : Framed s g) (ok : slotsOk s g ≡ tr
   pub retain-ok : slotsOk (withResult s g r) g ≡ true
   retain-ok = ap (λ (t : List ℕ). slotsOk t g) (retain-is s g x r e) ∙ right-ok (filled s g x r) g (gain-right g _ _ x (right s g ok) gained)
 
-  pub retain-count : usedCount (withResult s g r) g ≡ usedCount s g + 1
-  retain-count = ap (λ (t : List ℕ). usedCount t g) (retain-is s g x r e) ∙ gain-count g _ _ x (right s g ok) gained
-
   new-result : resultAt (filled s g x r) g x ≡ r
   unfolding resultAt
   new-result =
-      ap (λ (t : Slot). resultOf t (part (filled s g x r) (dataAt g x) (t .len * g .l))) filled-x
-      ∙ ap (resultOf (newRecord s g r))
+      ap (λ (t : Slot). slotResult t (part (filled s g x r) (dataAt g x) (t .len * g .l))) filled-x
+      ∙ ap (slotResult (newRecord s g r))
       (part-put-of s (slotAt g x) _ 16 (r .len * g .l) (omega (arith, size, room)) (omega (arith, size))
       ∙ part-append-back (bytesOf (newRecord s g r)) (r .bytes) 16 (r .len * g .l) (length-bytes (newRecord s g r)) (w .exact))
 

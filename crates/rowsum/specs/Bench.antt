@@ -1,10 +1,7 @@
 -- 01's bench shelf, before and "After C2, in full": the listing byte for byte. Assumes nothing.
-use Prim.Native.Nat.{ℕ}
-use mathlib.Core.List.{List, [], _∷_}
 use mathlib.Core.Path.{_≡_, refl}
 use lib.ListN.{set}
 use Rattle.octets.specs.Part.{part}
-use Rattle.octets.specs.Put.{put}
 use Rattle.octets.specs.Xor.{_⊻_}
 use Rattle.octets.specs.Number.{num}
 use Rattle.rules.specs.Every.{every}
@@ -15,7 +12,7 @@ use Rattle.drives.specs.Table.{statesOk, newAddress, addressesOk, tableOk}
 use Rattle.slots.specs.Record.{slotOf}
 use Rattle.slots.specs.Slots.{slotOk, eachOk, ranksOk, slotsOk}
 use Rattle.image.specs.Valid.{validImage}
-use Rattle.image.specs.Bench.{bench}
+use Rattle.image.specs.Bench.{bench, afterC2}
 use Rattle.sums.specs.Row.{summedTo, rowSum, isOpen}
 use Rattle.text.specs.Ascii.{ascii}
 use Rattle.text.specs.Decimal.{decimal, decimalIn}
@@ -23,19 +20,11 @@ use Rattle.text.specs.Hexadecimal.{hexadecimal, hexDigit}
 use Rattle.text.specs.Lines.{written}
 use Rattle.rowsum.specs.Listing.{headLine, rowLine, lineOf, rowLines, shelfLines, textOf}
 
--- "F50BF30D retained" in the slot at 44, and FF00FF00 on drive 1
-abbrev pub afterC2 : List ℕ
-afterC2 =
-    put
-    (put bench 44 (0 ∷ 0 ∷ 0 ∷ 1 ∷ 1 ∷ 0 ∷ 0 ∷ 1 ∷ 0 ∷ 0 ∷ 0 ∷ 0 ∷ 0 ∷ 0 ∷ 0 ∷ 0 ∷ 0xF5 ∷ 0x0B ∷ 0xF3 ∷ 0x0D ∷ []))
-    68
-    (0xFF ∷ 0x00 ∷ 0xFF ∷ 0x00 ∷ [])
-
--- and with drive 3 failed, its state byte at 40: "failed ones too"
+-- and after it with drive 3 failed, its state byte at 40: "failed ones too"
 pub bench-listings :
     (textOf bench ≡ ascii "drives 3 blocks 2 length 4 open 0\n")
     × (textOf afterC2 ≡ ascii "drives 3 blocks 2 length 4 open 1\nrow 0 sum f50bf30d\n")
     × (textOf (set afterC2 40 1) ≡ ascii "drives 3 blocks 2 length 4 open 1\nrow 0 sum f50bf30d\n")
     × (textOf (set afterC2 40 2) ≡ ascii "not a shelf\n")
-unfolding textOf shelfLines rowLines lineOf rowLine headLine written decimal decimalIn hexadecimal hexDigit rowSum summedTo isOpen _⊻_ put validImage framedOk rangesOk offsetsOk tableOk statesOk newAddress addressesOk slotsOk eachOk ranksOk slotOk slotOf slotAt place every allBelow countBelow part num
+unfolding textOf shelfLines rowLines lineOf rowLine headLine written decimal decimalIn hexadecimal hexDigit rowSum summedTo isOpen _⊻_ validImage framedOk rangesOk offsetsOk tableOk statesOk newAddress addressesOk slotsOk eachOk ranksOk slotOk slotOf slotAt place every allBelow countBelow part num
 bench-listings = (refl, refl, refl, refl)

@@ -7,6 +7,7 @@ use mathlib.Core.Path.{_≡_, refl, ap, ap₂, _∙_}
 use lib.Dec.{lit≤}
 use lib.ListN.{length, length-append}
 use Rattle.rules.specs.Cases.{either}
+use Rattle.rules.specs.Each.{each-append}
 use Rattle.rules.specs.Count.{countBelow}
 use Rattle.geometry.specs.declared.Geometry.{Geometry}
 use Rattle.geometry.specs.Header.{geometryOf}
@@ -15,7 +16,7 @@ use Rattle.sums.specs.Row.{rowSum, isOpen}
 use Rattle.text.specs.Ascii.{ascii, lacks, lacks-append}
 use Rattle.text.specs.Decimal.{decimal, decimal-lacks, field}
 use Rattle.text.specs.Hexadecimal.{hexadecimal, hexadecimal-lacks}
-use Rattle.text.specs.Lines.{linesIn, Plain, plain-append, lines-written}
+use Rattle.text.specs.Lines.{linesIn, Plain, lines-written}
 use Rattle.rowsum.specs.Listing.{headLine, rowLine, lineOf, rowLines, openRows, shelfLines, textOf}
 use Rattle.rowsum.specs.Whole.{text-shelf}
 
@@ -45,7 +46,7 @@ module _ (s : List ℕ) (g : Geometry) where
   rows-plain : (n : ℕ) → Plain (rowLines s g n)
   unfolding rowLines
   rows-plain zero = tt
-  rows-plain (suc n) = plain-append (rowLines s g n) (lineOf s g n) (rows-plain n) (line-plain n)
+  rows-plain (suc n) = each-append (λ (l : List ℕ). lacks 10 l ≡ true) (rowLines s g n) (lineOf s g n) (rows-plain n) (line-plain n)
 
   shelf-plain : Plain (shelfLines s g)
   unfolding shelfLines

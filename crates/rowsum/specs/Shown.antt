@@ -20,8 +20,8 @@ use Rattle.geometry.specs.Frame.{Framed}
 use Rattle.image.specs.Valid.{validImage}
 use Rattle.image.specs.Shelf.{shelf, shelf-frame}
 use Rattle.sums.specs.Row.{rowSum, isOpen}
-use Rattle.sums.specs.Bytes.{length-sum}
-use Rattle.text.specs.Ascii.{ascii, cut-at}
+use Rattle.sums.specs.Length.{length-sum}
+use Rattle.text.specs.Ascii.{ascii, cut-unique}
 use Rattle.text.specs.Decimal.{decimal, decimal-lacks, decimal-injective}
 use Rattle.text.specs.Hexadecimal.{hexadecimal}
 use Rattle.text.specs.Lines.{linesIn}
@@ -71,7 +71,7 @@ unfolding rowLine
 row-injective r r′ sum sum′ e =
     let parted : (k : ℕ) (xs : List ℕ) → rowLine k xs ≡ ascii "row " ++ (decimal k ++ (ascii " sum " ++ hexadecimal xs)) = (λ k xs. rw (append-assoc)) in
     let same = append-cancel-left (ascii "row ") _ _ (sym (parted r sum) ∙ e ∙ parted r′ sum′) in
-    let w = cut-at 32 (decimal r) (decimal r′) _ _ (decimal-lacks 32 r (lit≤ tt)) (decimal-lacks 32 r′ (lit≤ tt)) same in
+    let w = cut-unique 32 (decimal r) (decimal r′) _ _ (decimal-lacks 32 r (lit≤ tt)) (decimal-lacks 32 r′ (lit≤ tt)) same in
     (decimal-injective r r′ (w .0), append-cancel-left (ascii "sum ") _ _ (w .1))
 
 head-no-row : (g : Geometry) (n r : ℕ) (sum : List ℕ) → headLine g n ≡ rowLine r sum → ⊥

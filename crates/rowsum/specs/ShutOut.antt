@@ -5,10 +5,10 @@ use mathlib.Core.List.{List}
 use mathlib.Core.Path.{_≡_, ap, sym, _∙_}
 use lib.ListN.{getD, replicate}
 use Rattle.octets.specs.Put.{put}
-use Rattle.image.specs.Bench.{bench}
+use Rattle.image.specs.Bench.{bench, afterC2}
 use Rattle.text.specs.Room.{fitted, fittedCount}
 use Rattle.rowsum.specs.Listing.{listed, listedCount}
-use Rattle.rowsum.specs.Bench.{afterC2, bench-listings}
+use Rattle.rowsum.specs.Bench.{bench-listings}
 
 -- a room of 64 bytes: 34 are written on the bench shelf, 56 after C2
 abbrev room : List ℕ

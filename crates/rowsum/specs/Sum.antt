@@ -12,7 +12,7 @@ use Rattle.rules.specs.All.{allBelow}
 use Rattle.geometry.specs.declared.Geometry.{Geometry}
 use Rattle.geometry.specs.Frame.{Framed}
 use Rattle.sums.specs.Row.{counts, blockIn, summedTo, rowSum, isOpen}
-use Rattle.sums.specs.Bytes.{length-sum}
+use Rattle.sums.specs.Length.{length-sum}
 
 module _ (s : List ℕ) (g : Geometry) (r : ℕ) where
   -- what drive n adds

@@ -11,7 +11,7 @@ use lib.ListN.{length, length-append}
 use Rattle.geometry.specs.declared.Geometry.{Geometry}
 use Rattle.geometry.specs.Frame.{Framed}
 use Rattle.sums.specs.Row.{rowSum, isOpen}
-use Rattle.sums.specs.Bytes.{length-sum}
+use Rattle.sums.specs.Length.{length-sum}
 use Rattle.text.specs.Decimal.{decimal}
 use Rattle.text.specs.Hexadecimal.{length-hexadecimal}
 use Rattle.text.specs.Lines.{newline, written, written-append}

@@ -7,7 +7,7 @@ use mathlib.Core.Bool.{Bool, true, false, cond}
 use mathlib.Core.Path.{_≡_, refl, sym}
 use mathlib.Core.Logic.{_⊎_, inl, inr, ⊎-elim}
 use lib.Dec.{ltb, eqb}
-use borrow.Author.Tests.{ltb-true, ltb-false, eqb-true, eqb-false, eq-eqb}
+use borrow.Author.Tests.{ltb-true, ltb-false, eqb-true, eqb-false}
 
 pub either : (b : Bool) → (b ≡ true) ⊎ (b ≡ false)
 either true = inl refl
@@ -37,6 +37,3 @@ pub agree : (a b : Bool) → (a ≡ true → b ≡ true) → (b ≡ true → a �
 agree true b to from = sym (to refl)
 agree false true to from = from refl
 agree false false to from = refl
-
-pub eqb-iff : (a b c d : ℕ) → (a ≡ b → c ≡ d) → (c ≡ d → a ≡ b) → eqb a b ≡ eqb c d
-eqb-iff a b c d to from = agree (eqb a b) (eqb c d) (λ t. eq-eqb c d (to (eqb-true a b t))) (λ t. eq-eqb a b (from (eqb-true c d t)))

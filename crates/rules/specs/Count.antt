@@ -92,15 +92,6 @@ module _ (p : ℕ → Bool) where
   count-all zero h = refl
   count-all (suc n) h = rw (h n (omega arith), count-all n (λ i l. h i (omega arith))) (omega arith)
 
-  -- one has not
-  pub count-less : (n i : ℕ) → i < n → p i ≡ false → countBelow n p < n
-  unfolding countBelow
-  count-less zero i l h = absurd (not-suc-le-zero l)
-  count-less (suc n) i l h =
-      ⊎-elim (λ (e : i ≡ n). rw (ap p (sym e) ∙ h) (omega (arith, count-le n)))
-      (λ lt. let r = count-less n i lt h in ⊎-elim (λ t. rw t (omega arith)) (λ t. rw t (omega arith)) (either (p n)))
-      (last-or-below l)
-
 -- two tests that agree below n
 pub count-ext : (p q : ℕ → Bool) (n : ℕ) → ((i : ℕ) → i < n → p i ≡ q i) → countBelow n p ≡ countBelow n q
 unfolding countBelow

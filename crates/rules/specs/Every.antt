@@ -5,16 +5,16 @@ use mathlib.Core.List.{List, [], _∷_}
 use mathlib.Core.Bool.{Bool, true, false, cond, false≢true, true≢false}
 use mathlib.Core.Path.{_≡_, refl, ap₂}
 use lib.ListN.{getD}
+use Rattle.rules.specs.Each.{EachIs}
 
 -- shut, so that the laws find their list by matching
 unfoldable pub every : List Bool → Bool
 every [] = true
 every (t ∷ ts) = cond t (every ts) false
 
--- each test by itself, as nested pairs
+-- each test by itself
 abbrev pub Each : List Bool → Type 0
-Each [] = Unit {0}
-Each (t ∷ ts) = (t ≡ true) × Each ts
+Each ts = EachIs (λ t. t ≡ true) ts
 
 pub each : (ts : List Bool) → every ts ≡ true → Each ts
 unfolding every

@@ -6,6 +6,7 @@ use mathlib.Core.List.{List, [], _∷_, _++_}
 use mathlib.Core.Bool.{Bool, true, false, cond}
 use mathlib.Core.Path.{_≡_, refl, ap}
 use lib.ListN.{length, getD}
+use Rattle.rules.specs.Each.{EachIs}
 
 -- a check: its number, the place where it is seen, whether it applies, what it then answers
 pub data Rule (P A : Type 0) : Type 0 where
@@ -20,14 +21,9 @@ module _ {P A : Type 0} where
   which [] = 0
   which (rule n w b a ∷ rs) = cond b 0 (suc (which rs))
 
-  -- no rule applies, as nested pairs
+  -- no rule applies
   abbrev pub AllPass : List (Rule P A) → Type 0
-  AllPass [] = Unit {0}
-  AllPass (rule n w b a ∷ rs) = (b ≡ false) × AllPass rs
-
-  pub pass-append : (rs ss : List (Rule P A)) → AllPass rs → AllPass ss → AllPass (rs ++ ss)
-  pass-append [] ss h k = k
-  pass-append (rule n w b a ∷ rs) ss h k = (h .0, pass-append rs ss (h .1) k)
+  AllPass rs = EachIs (λ r. applies r ≡ false) rs
 
   -- every rule before the one that decides passes
   pub earlier : (rs : List (Rule P A)) (x : Rule P A) (i : ℕ) → i < which rs → applies (getD rs i x) ≡ false

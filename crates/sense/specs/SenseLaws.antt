@@ -7,8 +7,9 @@ use native.Mathlib.Nat.{suc-ne-zero}
 use native.Mathlib.Omega.{arith}
 use lib.ListN.{length, getD, drop, replicate}
 use lib.Dec.{eqb, ltb}
+use lib.Pow.{areBytes}
 use borrow.Author.Tests.{ltb-false, ne-eqb}
-use Rattle.octets.specs.Octets.{Octets, allSmall, small-octets, octets-zeros}
+use Rattle.octets.specs.Octets.{Octets, small-octets, octets-zeros}
 use Rattle.octets.specs.Number.{toBe}
 use Rattle.sense.specs.declared.Answer.{Answer}
 use Rattle.sense.specs.declared.Answer.the-variants.{Good, Busy, BadImage, NoTarget, BadCdb, WrongCount, ShortRoom, BadState, UnknownCode, TargetFailed, BadField, BadListLength, BadList, BadRange, NestedAddress, NestedFailed, NestedRange}
@@ -47,7 +48,7 @@ abbrev pub lengthFrom : List ℕ → ℕ
 lengthFrom s = cond (eqb (getD s 0 0) 0) 0 (getD s 7 0 + 8)
 
 -- an answer's number n and its sense s
-pub record Sound (n : ℕ) (s : Sense) : Type 0 where
+pub record SoundSense (n : ℕ) (s : Sense) : Type 0 where
   pub bytes-long : length (s .bytes) ≡ 37
   pub bytes-octets : Octets (s .bytes)
   pub zeros-after : drop (s .len) (s .bytes) ≡ replicate (37 - s .len) 0
@@ -55,31 +56,31 @@ pub record Sound (n : ℕ) (s : Sense) : Type 0 where
   -- "CHECK CONDITION (02h) with sense", and no other
   pub with-check : ltb 0 (s .len) ≡ eqb n 0x02
 
-none-sound : (n : ℕ) → false ≡ eqb n 0x02 → Sound n noSense
+none-sound : (n : ℕ) → false ≡ eqb n 0x02 → SoundSense n noSense
 unfolding noSense
 none-sound n e =
     record { bytes-long = refl; bytes-octets = octets-zeros 37; zeros-after = refl; length-is = refl; with-check = e }
 
-absent-sound : Sound 0x02 absentSense
+absent-sound : SoundSense 0x02 absentSense
 unfolding absentSense toBe
 absent-sound =
     let o = small-octets (absentSense .bytes) refl in
     record { bytes-long = refl; bytes-octets = o; zeros-after = refl; length-is = refl; with-check = refl }
 
-module _ (key code qualifier : ℕ) (h : allSmall (key ∷ code ∷ qualifier ∷ []) ≡ true) where
-  plain-sound : Sound 0x02 (plainSense key code qualifier)
+module _ (key code qualifier : ℕ) (h : areBytes (key ∷ code ∷ qualifier ∷ []) ≡ true) where
+  plain-sound : SoundSense 0x02 (plainSense key code qualifier)
   unfolding plainSense toBe
   plain-sound =
       let o = small-octets (plainSense key code qualifier .bytes) h in
       record { bytes-long = refl; bytes-octets = o; zeros-after = refl; length-is = refl; with-check = refl }
 
-  nested-sound : Sound 0x02 (nestedSense key code qualifier)
+  nested-sound : SoundSense 0x02 (nestedSense key code qualifier)
   unfolding nestedSense toBe
   nested-sound =
       let o = small-octets (nestedSense key code qualifier .bytes) h in
       record { bytes-long = refl; bytes-octets = o; zeros-after = refl; length-is = refl; with-check = refl }
 
-pub sound : (a : Answer) → Sound (numberOf a) (senseOf a)
+pub sound : (a : Answer) → SoundSense (numberOf a) (senseOf a)
 sound Good = none-sound _ refl
 sound Busy = none-sound _ refl
 sound BadImage = none-sound _ refl
@@ -102,7 +103,7 @@ sound NestedRange = nested-sound _ _ _ refl
 pub sense-length : (a : Answer) → senseOf a .len ≡ lengthFrom (senseOf a .bytes)
 sense-length a = sound a .length-is
 
-length-none : (n : ℕ) (s : Sense) → Sound n s → s .len ≡ 0 → s ≡ noSense
+length-none : (n : ℕ) (s : Sense) → SoundSense n s → s .len ≡ 0 → s ≡ noSense
 unfolding noSense
 length-none n s f e =
     let z : drop 0 (s .bytes) ≡ replicate 37 0 = rw e at (f .zeros-after) in

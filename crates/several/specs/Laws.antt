@@ -18,7 +18,7 @@ use Rattle.meaning.specs.declared.Decision.the-variants.{Stop, Go}
 use Rattle.meaning.specs.Sources.{firstBad}
 use Rattle.meaning.specs.Checks.{spanOf}
 use Rattle.several.specs.declared.list.Head.{Head}
-use Rattle.several.specs.Stages.{faultOr, rebuiltOf, gatheredOf, regeneratedOf, placedOf, lengthOf, ownedOf, headOf, headedOf, listedOf, countedOf, fieldsOf, unbounded, rebuildOf}
+use Rattle.several.specs.Stages.{faultOr, rebuiltOf, gatheredOf, regeneratedOf, placedOf, lengthOf, ownedOf, headOf, headedOf, listSizedOf, countedOf, fieldsOf, unbounded, rebuildOf}
 
 module _ (m : List ℕ) (g : Geometry) (t : ℕ) (k : Command) (s : List ℕ) where
   -- ---- where the tests have passed
@@ -34,8 +34,8 @@ module _ (m : List ℕ) (g : Geometry) (t : ℕ) (k : Command) (s : List ℕ) wh
   fields-on keep long sec due e x y l d =
       rw (d, l, ne-eqb (listSecOf k) 1 (λ q. x (e ∙ q)), ne-eqb (listSecOf k) 3 (λ q. y (e ∙ q)))
 
-  pub listed-on : (keep : Bool) (h : Head) → h ≡ headOf s → (k .list ≡ 0 → ⊥) → 8 ≤ k .list → headedOf keep h m g t k s ≡ listedOf keep m g t k s
-  unfolding listedOf
+  pub listed-on : (keep : Bool) (h : Head) → h ≡ headOf s → (k .list ≡ 0 → ⊥) → 8 ≤ k .list → headedOf keep h m g t k s ≡ listSizedOf keep m g t k s
+  unfolding listSizedOf
   listed-on keep h e z l = rw (e, ne-eqb (k .list) 0 z, le-ltb (k .list) 8 l)
 
   module _ (n : ℕ) where

@@ -65,8 +65,8 @@ headedOf keep h m g t k s =
     ∷ [])
     (ownedOf keep (h .sources) (ownEntry m g s (h .sources) t) m g t k s)
 
-unfoldable pub listedOf : Bool → List ℕ → Geometry → ℕ → Command → List ℕ → Decision
-listedOf keep m g t k s =
+unfoldable pub listSizedOf : Bool → List ℕ → Geometry → ℕ → Command → List ℕ → Decision
+listSizedOf keep m g t k s =
     first Stop (rule 6 (Cdb 7) (eqb (k .list) 0) Good ∷ rule 7 (Cdb 7) (ltb (k .list) 8) BadListLength ∷ [])
     (headedOf keep (headOf s) m g t k s)
 
@@ -74,7 +74,7 @@ listedOf keep m g t k s =
 
 unfoldable pub countedOf : Bool → ℕ → List ℕ → Geometry → ℕ → Command → List ℕ → Decision
 countedOf keep due m g t k s =
-    first Stop (zeroSix k ++ zeroControl 9 k ++ rule 5 Dash (not (eqb (length s) due)) WrongCount ∷ []) (listedOf keep m g t k s)
+    first Stop (zeroSix k ++ zeroControl 9 k ++ rule 5 Dash (not (eqb (length s) due)) WrongCount ∷ []) (listSizedOf keep m g t k s)
 
 unfoldable pub fieldsOf : Bool → Bool → List ℕ → Geometry → ℕ → Command → List ℕ → Decision
 fieldsOf keep long m g t k s =

@@ -12,7 +12,7 @@ ghost use lib.ListN.{length};
 ghost use Rattle.geometry.specs.Frame.{Framed};
 ghost use Rattle.command.specs.Command.{Fits};
 ghost use Rattle.meaning.specs.Sources.{ownEntry};
-ghost use Rattle.several.specs.Stages.{headOf, listedOf, headedOf, ownedOf, lengthOf};
+ghost use Rattle.several.specs.Stages.{headOf, listSizedOf, headedOf, ownedOf, lengthOf};
 
 // A list's first four bytes: how many sources, the entry type, and what must be zero.
 struct Head {
@@ -37,7 +37,7 @@ impl Head {
 // No byte of a list below 8 bytes is read.
 pub fn listed(keep: bool, image: &[u8], g: Geometry, t: usize, k: Command, sent: &[u8]) -> Decision
     requires { ⌜ Framed (now image) g × Fits k × (k .list ≤ length (now sent)) ⌝ }
-    ensures { λ r. ⌜ r ≡ listedOf keep (now (image .entry)) g t k (now (sent .entry)) ⌝ }
+    ensures { λ r. ⌜ r ≡ listSizedOf keep (now (image .entry)) g t k (now (sent .entry)) ⌝ }
 {
     let list = k.list;
     if list == 0 {

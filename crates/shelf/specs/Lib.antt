@@ -1,3 +1,3 @@
-pub mod Stepped
+pub mod Licensed
 pub mod Opened
 pub mod ShutOut

@@ -16,8 +16,8 @@ use Rattle.meaning.specs.declared.Seen.the-variants.{Dash}
 use Rattle.meaning.specs.Checks.{Check, calls}
 use Rattle.meaning.specs.Step.{answered, untouched, target, resetAnswer, resetImage, markAnswer, markImage}
 use Rattle.decide.specs.declared.Reached.the-variants.{Refused}
-use Rattle.decide.specs.Called.{calledOf, Target, called-refused}
-use Rattle.shelf.specs.Stepped.{Reset, Marked}
+use Rattle.decide.specs.Called.{calledOf, Addressed, addressed-found, called-refused}
+use Rattle.meaning.specs.Stepped.{Reset, Marked}
 
 -- calls 1 and 2
 module _ (m : List ℕ) (a : ℕ) (x : Answer) (e : calledOf m a ≡ Refused x) where
@@ -40,9 +40,9 @@ module _ (m : List ℕ) (a : ℕ) (x : Answer) (e : calledOf m a ≡ Refused x) 
       }
 
 -- where they pass
-module _ (m : List ℕ) (a : ℕ) (g : Geometry) (i : ℕ) (t : Target m a g i) where
+module _ (m : List ℕ) (a : ℕ) (g : Geometry) (i : ℕ) (t : Addressed m a g i) where
   found : driveOf m (geometryOf m) a ≡ At i
-  found = ap (λ (k : Geometry). driveOf m k a) (sym (t .header)) ∙ t .found
+  found = addressed-found m a g i t
 
   pub reset-done : (m′ : List ℕ) → m′ ≡ dropped m g i → Reset m a Good m′
   unfolding resetAnswer resetImage

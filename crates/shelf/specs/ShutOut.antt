@@ -17,20 +17,20 @@ use Rattle.slots.specs.Record.{slotOf}
 use Rattle.slots.specs.Slots.{slotOk, eachOk, ranksOk, slotsOk}
 use Rattle.slots.specs.Change.{lowerOne, lowered, released, dropped, droppedTo, dropOne}
 use Rattle.image.specs.Valid.{validImage}
-use Rattle.image.specs.Bench.{bench}
+use Rattle.image.specs.Bench.{shelfOf, two, three, bench, fresh, result, afterC2}
 use Rattle.sense.specs.declared.Answer.{Answer}
 use Rattle.sense.specs.declared.Outcome.{Outcome}
 use Rattle.sense.specs.Answers.{numberOf}
 use Rattle.meaning.specs.Step.{stepRoom, resetAnswer, resetImage, markAnswer, markImage}
-use Rattle.meaning.specs.Row.{Seen, Row, got, quiet}
-use Rattle.meaning.specs.Cases.{shelfOf, left, two, three, fresh, result, xdwrite, ten, room, afterC2, table}
+use Rattle.meaning.specs.Row.{Showed, Row, got, quiet}
+use Rattle.meaning.specs.Cases.{left, xdwrite, ten, room, table}
 use Rattle.meaning.specs.Tables.{cases}
-use Rattle.shelf.specs.Stepped.{Stepped, Reset, Marked}
+use Rattle.meaning.specs.Stepped.{Stepped, Reset, Marked}
 
 -- ---- the calls to tell them by
 
 -- row n of C1 to C11, the first 0
-abbrev nth : ℕ → List Seen → Seen
+abbrev nth : ℕ → List Showed → Showed
 nth n [] = quiet 0 0 [] []
 nth zero (w ∷ ws) = w
 nth (suc n) (w ∷ ws) = nth n ws
@@ -56,31 +56,31 @@ markings = (refl, refl, refl, refl)
 module _ (o : Outcome) (m r : List ℕ) where
   -- it refuses everything: C1
   pub refusing-not : (numberOf (o .answer) ≡ 0 → ⊥) → Stepped bench 1 (xdwrite 0x00) fresh room o m r → ⊥
-  refusing-not never h = never (ap (λ (x : Outcome). numberOf (x .answer)) (h .outcome) ∙ ap (λ (w : Seen). w .number) (example 0))
+  refusing-not never h = never (ap (λ (x : Outcome). numberOf (x .answer)) (h .outcome) ∙ ap (λ (w : Showed). w .number) (example 0))
 
   -- it always answers GOOD: C6
   pub good-not : numberOf (o .answer) ≡ 0 → Stepped bench 1 (xdwrite 0x20) fresh room o m r → ⊥
   good-not good h =
-      let x = ap (λ (x : Outcome). numberOf (x .answer)) (h .outcome) ∙ ap (λ (w : Seen). w .number) (example 6) in
+      let x = ap (λ (x : Outcome). numberOf (x .answer)) (h .outcome) ∙ ap (λ (w : Showed). w .number) (example 6) in
       omega (arith, good, x)
 
 module _ (o : Outcome) where
   -- it does nothing, whatever it answers: C1
   pub idle-not : (r : List ℕ) → Stepped bench 1 (xdwrite 0x00) fresh room o bench r → ⊥
   idle-not r h =
-      let z : _≡_ {A = ℕ} 0x0A 0xFF = ap (λ (l : List ℕ). getD l 68 0) (h .image ∙ ap (λ (w : Seen). w .image) (example 0)) in
+      let z : _≡_ {A = ℕ} 0x0A 0xFF = ap (λ (l : List ℕ). getD l 68 0) (h .image ∙ ap (λ (w : Showed). w .image) (example 0)) in
       omega arith
 
   -- it carries out its first code, C0h, and pretends to carry out another: the READ of C10
   pub first-code-only-not : (m : List ℕ) → Stepped bench 1 (ten 0x28 1 1) [] room o m room → ⊥
   first-code-only-not m h =
-      let z : _≡_ {A = ℕ} 0xAA 0 = ap (λ (l : List ℕ). getD l 0 0) (h .room ∙ ap (λ (w : Seen). w .room) (example 10)) in
+      let z : _≡_ {A = ℕ} 0xAA 0 = ap (λ (l : List ℕ). getD l 0 0) (h .room ∙ ap (λ (w : Showed). w .room) (example 10)) in
       omega arith
 
 -- it carries out the first call of a run, and pretends to carry out the second: C3's XDREAD
 pub first-call-only-not : (o o′ : Outcome) (m r m′ : List ℕ) → Stepped bench 1 (xdwrite 0x06) fresh room o m r → Stepped m 1 (ten 0xC2 0 1) [] room o′ m′ room → ⊥
 first-call-only-not o o′ m r m′ h h′ =
-    let x = h′ .room ∙ ap (λ (k : List ℕ). stepRoom k 1 (ten 0xC2 0 1) [] room) (h .image) ∙ ap (λ (w : Seen). w .room) (example 2) in
+    let x = h′ .room ∙ ap (λ (k : List ℕ). stepRoom k 1 (ten 0xC2 0 1) [] room) (h .image) ∙ ap (λ (w : Showed). w .room) (example 2) in
     let z : _≡_ {A = ℕ} 0xAA 0xF5 = ap (λ (l : List ℕ). getD l 0 0) x in
     omega arith
 
@@ -99,7 +99,7 @@ idle-reset-not x h = let z : _≡_ {A = ℕ} 1 0 = ap (λ (l : List ℕ). getD l
 -- it does nothing as the second call of a run
 pub second-reset-not : (o : Outcome) (m r : List ℕ) (x : Answer) → Stepped bench 1 (xdwrite 0x06) fresh room o m r → Reset m 1 x m → ⊥
 second-reset-not o m r x h k =
-    idle-reset-not x (subst (λ (l : List ℕ). Reset l 1 x l) (h .image ∙ ap (λ (w : Seen). w .image) (example 1)) k)
+    idle-reset-not x (subst (λ (l : List ℕ). Reset l 1 x l) (h .image ∙ ap (λ (w : Showed). w .image) (example 1)) k)
 
 -- ---- a marking
 

@@ -7,7 +7,7 @@ use meaning::Decision;
 use sense::Answer;
 use sense::Outcome;
 ghost use mathlib.Core.Path.{_≡_};
-ghost use Rattle.shelf.specs.Stepped.{Stepped, Reset, Marked};
+ghost use Rattle.meaning.specs.Stepped.{Stepped, Reset, Marked};
 
 // Carries out one command: it is decided on a shared image, and only a decision to go reaches the
 // code that changes one.

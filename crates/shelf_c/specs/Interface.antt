@@ -4,6 +4,7 @@ use mathlib.Core.Path.{_≡_, ap, _∙_}
 use mathlib.Core.Bool.{Bool, true, false, cond}
 use mathlib.Core.List.{List}
 use Prim.Native.Nat.{ℕ, _≤_, _<_}
+use native.Mathlib.Omega.{arith}
 use lib.Dec.{ltb}
 use lib.ListN.{length}
 use borrow.Author.Tests.{lt-ltb, le-ltb}
@@ -11,24 +12,37 @@ use Rattle.octets.specs.Put.{put}
 use Rattle.sense.specs.declared.Outcome.{Outcome}
 use Rattle.sense.specs.declared.Answer.the-variants.{ShortRoom}
 use Rattle.sense.specs.Answers.{numberOf}
-use native.Mathlib.Omega.{arith}
 use Rattle.sense.specs.SenseLaws.{sound}
 use Rattle.meaning.specs.declared.Decision.{Decision}
 use Rattle.meaning.specs.declared.Decision.the-variants.{Stop, Go}
 use Rattle.meaning.specs.Step.{decided, outcomeAfter, stepImage, stepRoom, stepOutcome}
+use Rattle.meaning.specs.Stepped.{Stepped}
 use Rattle.demands.specs.Count.{count-small}
-use Rattle.shelf.specs.Stepped.{Stepped}
 
 -- the sense room n is too short
 abbrev pub short : List ℕ → Bool
 short n = ltb (length n) 37
 
--- image m, target a, CDB c, data-out bytes s, room r, sense room n and count k become number x, image m′, room r′, sense room n′, count k′
+-- by image m, target a, CDB c, data-out bytes s, room r and sense room n: the number that it answers, and what it leaves
+module _ (m : List ℕ) (a : ℕ) (c s r n : List ℕ) where
+  abbrev pub stepNumber : ℕ
+  stepNumber = cond (short n) (numberOf ShortRoom) (numberOf (stepOutcome m a c s r .answer))
+
+  abbrev pub imageLeft : List ℕ
+  imageLeft = cond (short n) m (stepImage m a c s r)
+
+  abbrev pub roomLeft : List ℕ
+  roomLeft = cond (short n) r (stepRoom m a c s r)
+
+  abbrev pub senseLeft : List ℕ
+  senseLeft = cond (short n) n (put n 0 (stepOutcome m a c s r .sense .bytes))
+
+-- with count k they become number x, image m′, room r′, sense room n′, count k′
 pub record StepCall (m : List ℕ) (a : ℕ) (c s r n : List ℕ) (k x : ℕ) (m′ r′ n′ : List ℕ) (k′ : ℕ) : Type 0 where
-  pub number : x ≡ cond (short n) (numberOf ShortRoom) (numberOf (stepOutcome m a c s r .answer))
-  pub image : m′ ≡ cond (short n) m (stepImage m a c s r)
-  pub room : r′ ≡ cond (short n) r (stepRoom m a c s r)
-  pub sense : n′ ≡ cond (short n) n (put n 0 (stepOutcome m a c s r .sense .bytes))
+  pub number : x ≡ stepNumber m a c s r n
+  pub image : m′ ≡ imageLeft m a c s r n
+  pub room : r′ ≡ roomLeft m a c s r n
+  pub sense : n′ ≡ senseLeft m a c s r n
   pub count : k′ ≡ cond (short n) k (stepOutcome m a c s r .count)
 
 -- as the code goes
@@ -37,9 +51,9 @@ too-short m a c s r n k l =
     let e : short n ≡ true = lt-ltb (length n) 37 l in
     record { number = rw e; image = rw e; room = rw e; sense = rw e; count = rw e }
 
-pub carried : (m : List ℕ) (a : ℕ) (c s r n : List ℕ) (k x : ℕ) (o : Outcome) (m′ r′ n′ : List ℕ) (k′ : ℕ) → 37 ≤ length n → Stepped m a c s r o m′ r′
+pub long-enough : (m : List ℕ) (a : ℕ) (c s r n : List ℕ) (k x : ℕ) (o : Outcome) (m′ r′ n′ : List ℕ) (k′ : ℕ) → 37 ≤ length n → Stepped m a c s r o m′ r′
     → x ≡ numberOf (o .answer) → n′ ≡ put n 0 (o .sense .bytes) → k′ ≡ o .count → StepCall m a c s r n k x m′ r′ n′ k′
-carried m a c s r n k x o m′ r′ n′ k′ l h p q z =
+long-enough m a c s r n k x o m′ r′ n′ k′ l h p q z =
     let e : short n ≡ false = le-ltb (length n) 37 l in
     record {
       number = p ∙ ap (λ (t : Outcome). numberOf (t .answer)) (h .outcome) ∙ rw e;

@@ -3,11 +3,11 @@ use Prim.Native.Nat.{ℕ}
 use mathlib.Core.List.{List, []}
 use mathlib.Core.Path.{_≡_, refl, sym, _∙_}
 use lib.ListN.{replicate}
-use Rattle.image.specs.Bench.{bench}
+use Rattle.image.specs.Bench.{bench, fresh, afterC2}
 use Rattle.sense.specs.Answers.{numberOf}
 use Rattle.meaning.specs.Step.{stepOutcome, resetAnswer, resetImage, markAnswer, markImage}
-use Rattle.meaning.specs.Cases.{fresh, xdwrite, ten, room, afterC2}
-use Rattle.shelf.specs.Stepped.{Stepped, Reset, Marked}
+use Rattle.meaning.specs.Cases.{xdwrite, ten, room}
+use Rattle.meaning.specs.Stepped.{Stepped, Reset, Marked}
 use Rattle.shelf.specs.ShutOut as shelf
 use Rattle.shelf_c.specs.Interface.{StepCall}
 

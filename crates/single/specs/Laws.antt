@@ -15,21 +15,21 @@ use Rattle.meaning.specs.declared.Seen.the-variants.{Cdb}
 use Rattle.meaning.specs.declared.Decision.{Decision}
 use Rattle.meaning.specs.declared.Decision.the-variants.{Stop, Go}
 use Rattle.meaning.specs.Checks.{spanOf}
-use Rattle.single.specs.Stages.{roomyOf, plainOf, readOf, writeOf, xpwriteOf, answeredOf, matchedOf}
+use Rattle.single.specs.Stages.{roomyOf, plainStage, readOf, writeOf, xpwriteOf, answeredOf, matchedOf}
 
 -- ---- where the tests have passed
 
 module _ (g : Geometry) (t : ℕ) (k : Command) (x : Span) (h : x ≡ spanOf t k) where
   module _ (s : List ℕ) (six : k .six ≡ 0) where
-    pub read-on : (r : ℕ) (d : Decision) → d ≡ roomyOf g k r (Go (Read x) Good) → plainOf 0 g k s d ≡ readOf g t k s r
+    pub read-on : (r : ℕ) (d : Decision) → d ≡ roomyOf g k r (Go (Read x) Good) → plainStage 0 g k s d ≡ readOf g t k s r
     unfolding readOf
     read-on r d e = rw (e, h, eq-eqb (k .six) 0 six)
 
-    pub write-on : plainOf (k .count * g .l) g k s (Go (Write x) Good) ≡ writeOf g t k s
+    pub write-on : plainStage (k .count * g .l) g k s (Go (Write x) Good) ≡ writeOf g t k s
     unfolding writeOf
     write-on = rw (h, eq-eqb (k .six) 0 six)
 
-    pub xpwrite-on : k .count ≤ g .m → plainOf (k .count * g .l) g k s (Go (XpWrite x) Good) ≡ xpwriteOf g t k s
+    pub xpwrite-on : k .count ≤ g .m → plainStage (k .count * g .l) g k s (Go (XpWrite x) Good) ≡ xpwriteOf g t k s
     unfolding xpwriteOf
     xpwrite-on l = rw (h, eq-eqb (k .six) 0 six, le-ltb (g .m) (k .count) l)
 

@@ -24,8 +24,8 @@ use Rattle.meaning.specs.Checks.{isNothing, zeroSix, zeroControl, aboveM, inRan
 unfoldable pub roomyOf : Geometry → Command → ℕ → Decision → Decision
 roomyOf g k r d = first Stop (roomRule g k r) d
 
-unfoldable pub plainOf : ℕ → Geometry → Command → List ℕ → Decision → Decision
-plainOf due g k s d =
+unfoldable pub plainStage : ℕ → Geometry → Command → List ℕ → Decision → Decision
+plainStage due g k s d =
     first Stop
     (zeroControl 9 k
     ++ rule 5 Dash (not (eqb (length s) due)) WrongCount
@@ -34,13 +34,13 @@ plainOf due g k s d =
     d
 
 unfoldable pub readOf : Geometry → ℕ → Command → List ℕ → ℕ → Decision
-readOf g t k s r = first Stop (zeroSix k) (plainOf 0 g k s (roomyOf g k r (Go (Read (spanOf t k)) Good)))
+readOf g t k s r = first Stop (zeroSix k) (plainStage 0 g k s (roomyOf g k r (Go (Read (spanOf t k)) Good)))
 
 unfoldable pub writeOf : Geometry → ℕ → Command → List ℕ → Decision
-writeOf g t k s = first Stop (zeroSix k) (plainOf (k .count * g .l) g k s (Go (Write (spanOf t k)) Good))
+writeOf g t k s = first Stop (zeroSix k) (plainStage (k .count * g .l) g k s (Go (Write (spanOf t k)) Good))
 
 unfoldable pub xpwriteOf : Geometry → ℕ → Command → List ℕ → Decision
-xpwriteOf g t k s = first Stop (zeroSix k ++ aboveM 7 g k) (plainOf (k .count * g .l) g k s (Go (XpWrite (spanOf t k)) Good))
+xpwriteOf g t k s = first Stop (zeroSix k ++ aboveM 7 g k) (plainStage (k .count * g .l) g k s (Go (XpWrite (spanOf t k)) Good))
 
 -- ---- XDREAD
 

@@ -8,7 +8,7 @@ use sense::Answer;
 ghost use mathlib.Core.Path.{_≡_};
 ghost use Rattle.geometry.specs.Frame.{InRange};
 ghost use Rattle.command.specs.Command.{Fits};
-ghost use Rattle.single.specs.Stages.{plainOf, readOf, writeOf, xpwriteOf};
+ghost use Rattle.single.specs.Stages.{plainStage, readOf, writeOf, xpwriteOf};
 
 pub fn read(g: Geometry, t: usize, k: Command, sent: &[u8], room: usize) -> Decision
     requires { ⌜ InRange g × Fits k ⌝ }
@@ -64,7 +64,7 @@ pub fn xpwrite(g: Geometry, t: usize, k: Command, sent: &[u8]) -> Decision
 // From the last byte on: `due` bytes are sent, and where no check applies `go` stands.
 fn plain(due: usize, g: Geometry, k: Command, sent: &[u8], go: Decision) -> Decision
     requires { ⌜ InRange g × Fits k ⌝ }
-    ensures { λ r. ⌜ r ≡ plainOf due g k (now (sent .entry)) go ⌝ }
+    ensures { λ r. ⌜ r ≡ plainStage due g k (now (sent .entry)) go ⌝ }
 {
     let control = k.control;
     let count = k.count;

@@ -6,14 +6,13 @@ use Prim.Native.Nat.{ℕ, _+_, _≤_, _<_}
 use borrow.Author.Tests.{leb-true, ltb-true, eqb-true, le-leb, lt-ltb, eq-eqb, not-true, not-false}
 use Rattle.rules.specs.Every.{every, holds, every-of}
 use Rattle.rules.specs.All.{all-at, all-intro}
-use Rattle.rules.specs.Count.{countBelow}
 use Rattle.rules.specs.declared.Found.the-variants.{At}
 use Rattle.rules.specs.Least.{least-inside}
 use Rattle.geometry.specs.declared.Geometry.{Geometry}
 use Rattle.slots.specs.declared.Slot.{Slot}
 use Rattle.slots.specs.Record.{slotOf, zeroSlot, isUsed}
 use Rattle.slots.specs.Find.{emptySlot}
-use Rattle.slots.specs.Slots.{emptyOk, usedOk, slotOk, usedCount, hasRank, eachOk, ranksOk, slotsOk}
+use Rattle.slots.specs.Slots.{emptyOk, usedOk, slotOk, usedIn, usedCount, rankedIn, eachOk, ranksOk, slotsOk}
 
 pub record Used (g : Geometry) (k : ℕ) (r : Slot) : Type 0 where
   pub kind-low : 1 ≤ r .kind
@@ -92,12 +91,9 @@ empty-inside s g i e = let r = least-inside (λ k. not (isUsed (slotOf s g k))) 
 -- ---- all slots together
 
 -- the slots f are right: k of them are used, each is right, and each rank of 1 to k is one slot's
-abbrev pub usedIn : Geometry → (ℕ → Slot) → ℕ
-usedIn g f = countBelow (g .s) (λ i. isUsed (f i))
-
 pub record Right (g : Geometry) (f : ℕ → Slot) : Type 0 where
   pub ok : (i : ℕ) → i < g .s → slotOk g (usedIn g f) (f i) ≡ true
-  pub once : (n : ℕ) → n < usedIn g f → countBelow (g .s) (λ i. hasRank (n + 1) (f i)) ≡ 1
+  pub once : (n : ℕ) → n < usedIn g f → rankedIn g f (n + 1) ≡ 1
 
 pub right : (s : List ℕ) (g : Geometry) → slotsOk s g ≡ true → Right g (slotOf s g)
 unfolding slotsOk eachOk ranksOk

@@ -1,8 +1,8 @@
 -- An image whose bytes in the slots are as before has the same slots. Assumes nothing.
-use Prim.Native.Nat.{ℕ, zero, suc, _+_, _-_, _*_, _≤_, _<_}
+use Prim.Native.Nat.{ℕ, _+_, _-_, _*_, _≤_, _<_}
 use native.Mathlib.Omega.{arith}
 use mathlib.Core.Bool.{not}
-use mathlib.Core.Path.{_≡_, refl, sym, ap, ap₂, _∙_}
+use mathlib.Core.Path.{_≡_, sym, ap, ap₂, _∙_}
 use mathlib.Core.Logic.{inl, inr, ⊎-elim}
 use mathlib.Core.List.{List}
 use lib.Dec.{eqb}
@@ -20,10 +20,9 @@ use Rattle.geometry.specs.Frame.{Placed}
 use Rattle.geometry.specs.Places.{slot-after-table, slot-before-media, data-ends}
 use Rattle.geometry.specs.Outside.{Away}
 use Rattle.slots.specs.declared.Slot.{Slot}
-use Rattle.slots.specs.declared.Best.{Best}
 use Rattle.slots.specs.Record.{recordOf, slotOf, isUsed}
 use Rattle.slots.specs.Slots.{slotOk, usedCount, hasRank, rankCount, eachOk, ranksOk, slotsOk}
-use Rattle.slots.specs.Find.{emptySlot, better, bestOf, newestOf}
+use Rattle.slots.specs.Find.{emptySlot}
 
 -- all slots' bytes
 abbrev pub slotBytes : List ℕ → Geometry → List ℕ
@@ -76,15 +75,6 @@ module _ (s t : List ℕ) (g : Geometry) (p : Placed g) (e : slotBytes t g ≡ s
   pub kept-empty : emptySlot t g ≡ emptySlot s g
   unfolding emptySlot
   kept-empty = least-ext _ _ (g .s) (λ i l. ap (λ (r : Slot). not (isUsed r)) (kept-slot i l))
-
-  kept-best : (drive block n : ℕ) → n ≤ g .s → bestOf t g drive block n ≡ bestOf s g drive block n
-  unfolding bestOf
-  kept-best drive block zero l = refl
-  kept-best drive block (suc n) l = ap₂ (λ (b : Best) (r : Slot). better drive block b n r) (kept-best drive block n (omega arith)) (kept-slot n l)
-
-  pub kept-newest : (drive block : ℕ) → newestOf t g drive block ≡ newestOf s g drive block
-  unfolding newestOf
-  kept-newest drive block = ap (λ (b : Best). b .found) (kept-best drive block (g .s) (omega arith))
 
 -- a write on the media leaves the slot that takes a result
 pub media-empty : (s : List ℕ) (g : Geometry) (at : ℕ) (ys : List ℕ) → Placed g → g .media ≤ at → emptySlot (put s at ys) g ≡ emptySlot s g

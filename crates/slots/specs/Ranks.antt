@@ -12,8 +12,8 @@ use Rattle.geometry.specs.declared.Geometry.{Geometry}
 use Rattle.slots.specs.declared.Slot.{Slot}
 use Rattle.slots.specs.Record.{isUsed}
 use Rattle.slots.specs.RecordLaws.{ranked}
-use Rattle.slots.specs.Slots.{hasRank, slotOk}
-use Rattle.slots.specs.Facts.{Used, used-facts, empty-is, zero-ok, usedIn, Right}
+use Rattle.slots.specs.Slots.{slotOk, usedIn, hasRank}
+use Rattle.slots.specs.Facts.{Used, used-facts, empty-is, zero-ok, Right}
 
 pub has-rank : (n : ℕ) (r : Slot) → isUsed r ≡ true → r .rank ≡ n → hasRank n r ≡ true
 has-rank n r u e = every-of _ (u, (eq-eqb _ _ e, tt))

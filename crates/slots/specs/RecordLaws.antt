@@ -5,10 +5,9 @@ use mathlib.Core.Logic.{inr}
 use Prim.Native.Nat.{ℕ, _+_, _/_, _%_, _^_, _≤_, _<_}
 use native.Mathlib.Omega.{arith}
 use lib.ListN.{length, replicate}
-use Rattle.octets.specs.Part.{part, length-part}
+use Rattle.octets.specs.Part.{part}
 use Rattle.octets.specs.Put.{put}
-use Rattle.octets.specs.Octets.{Octets, octets-part}
-use Rattle.octets.specs.Number.{be, num, toBe, length-toBe, num-toBe-lt, be-put, be-put-apart, be-part, be-lt, toBe1, toBe2, toBe4}
+use Rattle.octets.specs.Number.{be, num, toBe, length-toBe, num-toBe-lt, be-put, be-put-apart, be-part, toBe1, toBe2, toBe4}
 use Rattle.geometry.specs.declared.Geometry.{Geometry}
 use Rattle.geometry.specs.Header.{slotAt}
 use Rattle.slots.specs.declared.Slot.{Slot}
@@ -65,22 +64,6 @@ record-ranked r v l h =
     let e4 : be 4 t 8 ≡ be 4 r 8 = be-put-apart 4 r 0 (toBe 4 v) 8 (inr (omega arith)) in
     let e5 : be 4 t 12 ≡ be 4 r 12 = be-put-apart 4 r 0 (toBe 4 v) 12 (inr (omega arith)) in
     cc
-
--- what bytes write is small
-pub record-small : (r : List ℕ) → length r ≡ 16 → Octets r → Small (recordOf r)
-record-small r l h =
-    record {
-      rank-small = be-lt 4 r 0 (omega arith) h;
-      kind-small = be-lt 1 r 4 (omega arith) h;
-      drive-small = be-lt 1 r 5 (omega arith) h;
-      len-small = be-lt 2 r 6 (omega arith) h;
-      block-small = be-lt 4 r 8 (omega arith) h;
-      last-small = be-lt 4 r 12 (omega arith) h;
-    }
-
-pub slot-small : (s : List ℕ) (g : Geometry) (i : ℕ) → Octets s → slotAt g i + 16 ≤ length s → Small (slotOf s g i)
-unfolding slotOf
-slot-small s g i h l = record-small (part s (slotAt g i) 16) (length-part s (slotAt g i) 16 l) (octets-part s (slotAt g i) 16 h)
 
 -- ---- as the code reads and writes it
 

@@ -32,16 +32,22 @@ usedOk g k r =
 unfoldable pub slotOk : Geometry → ℕ → Slot → Bool
 slotOk g k r = cond (isUsed r) (usedOk g k r) (emptyOk r)
 
--- how many slots are used
-abbrev pub usedCount : List ℕ → Geometry → ℕ
-usedCount s g = countBelow (g .s) (λ i. isUsed (slotOf s g i))
+-- how many of the slots f are used, and of an image's
+abbrev pub usedIn : Geometry → (ℕ → Slot) → ℕ
+usedIn g f = countBelow (g .s) (λ i. isUsed (f i))
 
--- how many used slots have rank n
+abbrev pub usedCount : List ℕ → Geometry → ℕ
+usedCount s g = usedIn g (slotOf s g)
+
+-- a used slot of rank n, and how many have it
 abbrev pub hasRank : ℕ → Slot → Bool
 hasRank n r = every (isUsed r ∷ eqb (r .rank) n ∷ [])
 
+abbrev pub rankedIn : Geometry → (ℕ → Slot) → ℕ → ℕ
+rankedIn g f n = countBelow (g .s) (λ i. hasRank n (f i))
+
 abbrev pub rankCount : List ℕ → Geometry → ℕ → ℕ
-rankCount s g n = countBelow (g .s) (λ i. hasRank n (slotOf s g i))
+rankCount s g n = rankedIn g (slotOf s g) n
 
 -- each slot is right, where k are used
 unfoldable pub eachOk : List ℕ → Geometry → ℕ → Bool

@@ -1,6 +1,6 @@
 -- What a write does to each row's sum. Assumes nothing.
 use mathlib.Core.Path.{_≡_, refl, sym, ap, ap₂, _∙_}
-use mathlib.Core.Logic.{_⊎_, ⊎-elim}
+use mathlib.Core.Logic.{⊎-elim}
 use mathlib.Core.List.{List, []}
 use Prim.Native.Nat.{ℕ, zero, suc, _+_, _-_, _*_, _≤_, _<_}
 use native.Mathlib.Nat.{not-suc-le-zero}
@@ -11,11 +11,11 @@ use Rattle.octets.specs.Put.{put}
 use Rattle.octets.specs.PutPut.{part-put-below, part-put-above, part-put-of}
 use Rattle.octets.specs.Pieces.{block-inside}
 use Rattle.octets.specs.Xor.{_⊻_, length-xor-le, xor-nil, xor-commutes, xor-regroups, xor-swaps, xor-cancels, part-xor}
-use Rattle.rules.specs.Cases.{order, same, last-or-below}
+use Rattle.rules.specs.Cases.{order, last-or-below}
 use Rattle.geometry.specs.declared.Geometry.{Geometry}
 use Rattle.geometry.specs.Header.{place}
 use Rattle.geometry.specs.Frame.{Framed}
-use Rattle.geometry.specs.Places.{Range, place-after-media, place-on, block-before, block-upto, range-room}
+use Rattle.geometry.specs.Places.{Range, place-on, block-before, block-upto, range-room, range-long}
 use Rattle.geometry.specs.Written.{other-drive}
 use Rattle.sums.specs.Row.{blockIn, summedTo, rowSum}
 use Rattle.sums.specs.Share.{share, share-in, share-below, share-past}
@@ -52,12 +52,6 @@ module _ (s t : List ℕ) (g : Geometry) (r : ℕ) where
     unfolding rowSum
     sum-one l h = one-to (g .d) l h
 
--- ---- a write that ends before the media
-
-pub sum-before : (s : List ℕ) (g : Geometry) (at : ℕ) (ys : List ℕ) → at + length ys ≤ g .media → (r : ℕ) → rowSum (put s at ys) g r ≡ rowSum s g r
-sum-before s g at ys h r =
-    sum-same s (put s at ys) g r (λ e l. part-put-above s at ys (place g e r) (g .l) (omega (arith, place-after-media g e r)))
-
 -- ---- a write over n blocks of drive d from block b on
 
 module _ (s : List ℕ) (g : Geometry) (f : Framed s g) (d b n : ℕ) (w : Range g d b n) (ys : List ℕ) (long : length ys ≡ n * g .l) where
@@ -71,7 +65,7 @@ module _ (s : List ℕ) (g : Geometry) (f : Framed s g) (d b n : ℕ) (w : Range
   room = range-room s g d b n f w
 
   length-old : length old ≡ n * g .l
-  length-old = length-part s at (n * g .l) room
+  length-old = range-long s g d b n f w
 
   other-block : (r e : ℕ) → r < g .b → (e ≡ d → ⊥) → blockIn (put s at ys) g r e ≡ blockIn s g r e
   other-block r e l ne = other-drive s g d e b r n 1 (g .l) ys ne (w .range-in) (omega arith) (omega arith) (omega arith)
@@ -126,17 +120,3 @@ module _ (s : List ℕ) (g : Geometry) (f : Framed s g) (d b n : ℕ) (w : Range
   -- each row's sum changes by the old bytes and the new ones there
   pub sum-put : (r : ℕ) → r < g .b → rowSum (put s at ys) g r ≡ rowSum s g r ⊻ share g b (old ⊻ ys) r
   sum-put r l = sum-one s (put s at ys) g r d (share g b (old ⊻ ys) r) (own-block r) (w .drive-in) (λ e le ne. other-block r e l ne)
-
-  -- row by row: outside the blocks written, and inside
-  pub sum-put-outside : (r : ℕ) → r < g .b → (r < b) ⊎ (b + n ≤ r) → rowSum (put s at ys) g r ≡ rowSum s g r
-  sum-put-outside r l h =
-      sum-same s (put s at ys) g r
-      (λ e le. ⊎-elim (λ q. rw q (⊎-elim (λ k. own-below r k) (λ k. own-above r k) h)) (λ ne. other-block r e l ne) (same e d))
-
-  pub sum-put-inside : (r : ℕ) → r < g .b → b ≤ r → r < b + n
-      → rowSum (put s at ys) g r ≡ rowSum s g r ⊻ (blockIn s g r d ⊻ part ys ((r - b) * g .l) (g .l))
-  sum-put-inside r l h k =
-      let i = (r - b) * g .l in
-      sum-put r l
-      ∙ ap (_⊻_ (rowSum s g r))
-      (share-in g b (old ⊻ ys) r h ∙ part-xor old ys i (g .l) ∙ ap (λ (o : List ℕ). o ⊻ part ys i (g .l)) (old-block r h k))

@@ -1,4 +1,6 @@
 pub mod Row
-pub mod Bytes
+pub mod Length
 pub mod Share
 pub mod Change
+pub mod Others
+pub mod OldBytes

@@ -28,10 +28,10 @@ lacks-append b [] ys h k = k
 lacks-append b (x ∷ xs) ys h k = let w = lacks-cons b x xs h in rw (w .0) (lacks-append b xs ys (w .1) k)
 
 -- two texts that are one: what stands before the first b, and what after it
-pub cut-at : (b : ℕ) (xs ys us vs : List ℕ) → lacks b xs ≡ true → lacks b ys ≡ true → xs ++ b ∷ us ≡ ys ++ b ∷ vs → (xs ≡ ys) × (us ≡ vs)
-cut-at b [] [] us vs h k e = (refl, tail-eq-of-cons-eq e)
-cut-at b [] (y ∷ ys) us vs h k e = absurd (eqb-false y b (lacks-cons b y ys k .0) (sym (head-eq-of-cons-eq e)))
-cut-at b (x ∷ xs) [] us vs h k e = absurd (eqb-false x b (lacks-cons b x xs h .0) (head-eq-of-cons-eq e))
-cut-at b (x ∷ xs) (y ∷ ys) us vs h k e =
-    let r = cut-at b xs ys us vs (lacks-cons b x xs h .1) (lacks-cons b y ys k .1) (tail-eq-of-cons-eq e) in
+pub cut-unique : (b : ℕ) (xs ys us vs : List ℕ) → lacks b xs ≡ true → lacks b ys ≡ true → xs ++ b ∷ us ≡ ys ++ b ∷ vs → (xs ≡ ys) × (us ≡ vs)
+cut-unique b [] [] us vs h k e = (refl, tail-eq-of-cons-eq e)
+cut-unique b [] (y ∷ ys) us vs h k e = absurd (eqb-false y b (lacks-cons b y ys k .0) (sym (head-eq-of-cons-eq e)))
+cut-unique b (x ∷ xs) [] us vs h k e = absurd (eqb-false x b (lacks-cons b x xs h .0) (head-eq-of-cons-eq e))
+cut-unique b (x ∷ xs) (y ∷ ys) us vs h k e =
+    let r = cut-unique b xs ys us vs (lacks-cons b x xs h .1) (lacks-cons b y ys k .1) (tail-eq-of-cons-eq e) in
     (ap₂ (λ (a : ℕ) (l : List ℕ). a ∷ l) (head-eq-of-cons-eq e) (r .0), r .1)

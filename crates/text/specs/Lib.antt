@@ -1,4 +1,5 @@
 pub mod Ascii
+pub mod Cut
 pub mod Decimal
 pub mod Hexadecimal
 pub mod Room

@@ -50,9 +50,9 @@ pub fits : (xs room : List ℕ) (next : ℕ) (after : List ℕ) → length xs �
 unfolding fitted fittedCount
 fits xs room next after h w = rw (le-leb (length xs) (length room) h) (omega (arith, w .ends), w .leaves)
 
-pub too-short : (xs room : List ℕ) → length room < length xs → (0 ≡ fittedCount xs room) × (room ≡ fitted xs room)
+pub unfitted : (xs room : List ℕ) → length room < length xs → (0 ≡ fittedCount xs room) × (room ≡ fitted xs room)
 unfolding fitted fittedCount
-too-short xs room h = rw (lt-leb (length xs) (length room) h) (refl, refl)
+unfitted xs room h = rw (lt-leb (length xs) (length room) h) (refl, refl)
 
 -- the count is one of the room's bytes, as `&room[..count]` asks
 pub count-in : (xs room : List ℕ) → fittedCount xs room ≤ length (fitted xs room)

@@ -7,9 +7,9 @@ use lib.Dec.{eqb, ltb, leb}
 use lib.ListN.{length, getD}
 use Rattle.octets.specs.Number.{be}
 use Rattle.rules.specs.All.{allBelow}
+use Rattle.rules.specs.Same.{sameList}
 use Rattle.text.specs.Ascii.{ascii}
 use Rattle.text.specs.Hexadecimal.{hexadecimal}
-use Rattle.words.specs.Words.{sameWord}
 
 -- `0` to `9`, or `a` to `f`
 unfoldable pub isHex : ℕ → Bool
@@ -29,7 +29,7 @@ allHex w = allBelow (length w) (λ j. isHex (getD w j 0))
 
 -- `-` for no bytes, or two digits for each
 unfoldable pub isBytes : List ℕ → Bool
-isBytes w = sameWord w (ascii "-") || (ltb 0 (length w) && (eqb (length w % 2) 0 && allHex w))
+isBytes w = sameList w (ascii "-") || (ltb 0 (length w) && (eqb (length w % 2) 0 && allHex w))
 
 -- eight digits
 unfoldable pub isNumber : List ℕ → Bool

@@ -12,9 +12,9 @@ use borrow.Author.Tests.{ltb-true, eqb-true, eqb-false, lt-ltb, le-ltb, eq-eqb}
 use Rattle.octets.specs.Octets.{Octets, octets-tail}
 use Rattle.rules.specs.All.{all-at, all-intro}
 use Rattle.rules.specs.Cases.{either, order}
+use Rattle.rules.specs.Same.{sameList, same-list, same-self}
 use Rattle.text.specs.Ascii.{ascii}
 use Rattle.text.specs.Hexadecimal.{hexDigit, hexadecimal, length-hexadecimal}
-use Rattle.words.specs.Words.{sameWord, same-word, word-same}
 use Rattle.words.specs.Digits.{isHex, digitIn, unhex, allHex, isBytes, wordOf}
 use Rattle.words.specs.Unhex.{word-none, word-some, letter, figure, digit-read, length-unhex, unhex-hexadecimal}
 
@@ -30,7 +30,7 @@ hex-each (b ∷ bs) o (suc (suc j)) l = hex-each bs (octets-tail b bs o) j (le-o
 pub read-written : (bs : List ℕ) → Octets bs → (isBytes (wordOf bs) ≡ true) × (unhex (wordOf bs) ≡ bs)
 unfolding isBytes unhex
 read-written bs o =
-    ⊎-elim (λ t. rw (word-none bs (eqb-true (length bs) 0 t), word-same) (refl, sym (none bs (eqb-true (length bs) 0 t))))
+    ⊎-elim (λ t. rw (word-none bs (eqb-true (length bs) 0 t), same-self) (refl, sym (none bs (eqb-true (length bs) 0 t))))
     (λ f. rw (word-some bs (eqb-false (length bs) 0 f)) (some f, unhex-hexadecimal bs o))
     (either (eqb (length bs) 0))
   where
@@ -46,7 +46,7 @@ read-written bs o =
         let n = length-hexadecimal bs in
         let ne = eqb-false (length bs) 0 f in
         let hex : allHex (hexadecimal bs) ≡ true = all-intro (λ j. isHex (getD (hexadecimal bs) j 0)) (length (hexadecimal bs)) (hex-each bs o) in
-        rw (lt-ltb 0 (length (hexadecimal bs)) (pos ne n), eq-eqb (length (hexadecimal bs) % 2) 0 (omega arith), hex) (or-true (sameWord (hexadecimal bs) (ascii "-")))
+        rw (lt-ltb 0 (length (hexadecimal bs)) (pos ne n), eq-eqb (length (hexadecimal bs) % 2) 0 (omega arith), hex) (or-true (sameList (hexadecimal bs) (ascii "-")))
 
 -- ---- only what is written so is read
 
@@ -71,12 +71,12 @@ written-read (x ∷ y ∷ w) h e =
 
 pub word-back : (w : List ℕ) → isBytes w ≡ true → wordOf (unhex w) ≡ w
 unfolding isBytes unhex wordOf
-word-back w h = ⊎-elim (λ t. dash (same-word w (ascii "-") t)) (λ f. digits f) (either (sameWord w (ascii "-")))
+word-back w h = ⊎-elim (λ t. dash (same-list w (ascii "-") t)) (λ f. digits f) (either (sameList w (ascii "-")))
   where
     dash : w ≡ ascii "-" → wordOf (unhex w) ≡ w
     dash e = rw e
 
-    digits : sameWord w (ascii "-") ≡ false → wordOf (unhex w) ≡ w
+    digits : sameList w (ascii "-") ≡ false → wordOf (unhex w) ≡ w
     digits f =
         let e : (ltb 0 (length w) && (eqb (length w % 2) 0 && allHex w)) ≡ true = rw f at h in
         let both = and-eq-true-iff (ltb 0 (length w)) (eqb (length w % 2) 0 && allHex w) .0 e in
@@ -88,8 +88,8 @@ word-back w h = ⊎-elim (λ t. dash (same-word w (ascii "-") t)) (λ f. digits 
 
 -- ---- `=` is "unchanged"
 
-pub unchanged : (w bs : List ℕ) → Octets bs → sameWord w (wordOf bs) ≡ true → bs ≡ unhex w
-unchanged w bs o t = sym (read-written bs o .1) ∙ ap unhex (sym (same-word w (wordOf bs) t))
+pub unchanged : (w bs : List ℕ) → Octets bs → sameList w (wordOf bs) ≡ true → bs ≡ unhex w
+unchanged w bs o t = sym (read-written bs o .1) ∙ ap unhex (sym (same-list w (wordOf bs) t))
 
-pub kept : (w bs : List ℕ) → isBytes w ≡ true → bs ≡ unhex w → sameWord w (wordOf bs) ≡ true
-kept w bs h e = rw (e, word-back w h) (word-same w)
+pub kept : (w bs : List ℕ) → isBytes w ≡ true → bs ≡ unhex w → sameList w (wordOf bs) ≡ true
+kept w bs h e = rw (e, word-back w h) (same-self w)

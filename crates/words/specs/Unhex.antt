@@ -1,5 +1,5 @@
 -- What is read from digits: how much, byte by byte, and that it is what was written. Assumes nothing.
-use Prim.Native.Nat.{ℕ, zero, suc, _+_, _-_, _*_, _/_, _%_, _≤_, _<_}
+use Prim.Native.Nat.{ℕ, zero, suc, _+_, _*_, _/_, _%_, _≤_, _<_}
 use native.Mathlib.Numerals.{add-one}
 use native.Mathlib.Omega.{arith}
 use mathlib.Core.Bool.{true, _&&_, and-eq-true-iff}
@@ -15,10 +15,10 @@ use Rattle.octets.specs.Part.{part}
 use Rattle.octets.specs.Put.{length-put}
 use Rattle.octets.specs.PutPut.{part-put}
 use Rattle.rules.specs.Cases.{either, order}
+use Rattle.rules.specs.Same.{sameList, same-list}
 use Rattle.text.specs.Ascii.{ascii}
 use Rattle.text.specs.Hexadecimal.{hexDigit, hexadecimal}
 use Rattle.text.specs.Room.{Wrote, wrote-then, wrote-byte}
-use Rattle.words.specs.Words.{sameWord, same-word}
 use Rattle.words.specs.Digits.{isHex, digitIn, unhex, allHex, isBytes, isNumber, Hex, wordOf}
 
 -- ---- what the code knows of words that are bytes or numbers
@@ -37,18 +37,18 @@ figure b h l =
 pub bytes-some : (w : List ℕ) → isBytes w ≡ true → 1 ≤ length w
 unfolding isBytes
 bytes-some w h =
-    ⊎-elim (λ t. rw (same-word w (ascii "-") t) (omega arith))
+    ⊎-elim (λ t. rw (same-list w (ascii "-") t) (omega arith))
     (λ f. let e : (ltb 0 (length w) && (eqb (length w % 2) 0 && allHex w)) ≡ true = rw f at h in
     ltb-true 0 (length w) (and-eq-true-iff (ltb 0 (length w)) (eqb (length w % 2) 0 && allHex w) .0 e .0))
-    (either (sameWord w (ascii "-")))
+    (either (sameList w (ascii "-")))
 
 pub bytes-hex : (w : List ℕ) → isBytes w ≡ true → Hex w
 unfolding isBytes
 bytes-hex w h l =
-    ⊎-elim (λ t. let e : length w ≡ 1 = ap length (same-word w (ascii "-") t) in absurd (omega arith))
+    ⊎-elim (λ t. let e : length w ≡ 1 = ap length (same-list w (ascii "-") t) in absurd (omega arith))
     (λ f. let e : (ltb 0 (length w) && (eqb (length w % 2) 0 && allHex w)) ≡ true = rw f at h in
     and-eq-true-iff (eqb (length w % 2) 0) (allHex w) .0 (and-eq-true-iff (ltb 0 (length w)) (eqb (length w % 2) 0 && allHex w) .0 e .1) .1)
-    (either (sameWord w (ascii "-")))
+    (either (sameList w (ascii "-")))
 
 pub number-long : (w : List ℕ) → isNumber w ≡ true → length w ≡ 8
 unfolding isNumber

@@ -1,7 +1,8 @@
 // The words of a line.
 ghost use mathlib.Core.Path.{_≡_};
 ghost use Prim.Native.Nat.{_+_};
-ghost use Rattle.words.specs.Words.{Cut, sameWord};
+ghost use Rattle.rules.specs.Same.{sameList};
+ghost use Rattle.words.specs.Words.{Cut};
 
 // Where the first word ends: at the first space, or at the end.
 pub fn cut(line: &[u8]) -> usize
@@ -19,7 +20,7 @@ pub fn cut(line: &[u8]) -> usize
 }
 
 pub fn same(v: &[u8], w: &[u8]) -> bool
-    ensures { λ r. ⌜ r ≡ sameWord (now (v .entry)) (now (w .entry)) ⌝ }
+    ensures { λ r. ⌜ r ≡ sameList (now (v .entry)) (now (w .entry)) ⌝ }
 {
     let n = v.len();
     if n != w.len() {

@@ -1,6 +1,5 @@
 -- `octets::copy_from` meets its contract. Assumes nothing.
-use mathlib.Core.Path.{_≡_, ap, _∙_}
-use mathlib.Core.List.{List}
+use mathlib.Core.Path.{_∙_}
 use lib.ListN.{length}
 use Rattle.octets.specs.Part.{mid-part}
 use borrow.Author.Needs.{needs}

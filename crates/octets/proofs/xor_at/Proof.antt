@@ -1,11 +1,10 @@
 -- `octets::xor_at` meets its contract: what `xor_into` leaves of the part comes back in the part's place. Assumes nothing.
-use mathlib.Core.Path.{_≡_, ap, _∙_}
+use mathlib.Core.Path.{ap, _∙_}
 use mathlib.Core.List.{List}
 use Prim.Native.Nat.{ℕ}
-use native.Mathlib.Omega.{arith}
 use lib.ListN.{length}
 use Rattle.octets.specs.Xor.{_⊻_}
-use Rattle.octets.specs.Part.{part, mid-part}
+use Rattle.octets.specs.Part.{mid-part}
 use Rattle.octets.specs.Put.{put, put-back}
 use borrow.Author.Needs.{needs}
 use Rattle.octets.proofs.xor_at.Statement.{statement}

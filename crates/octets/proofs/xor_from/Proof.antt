@@ -1,6 +1,5 @@
 -- `octets::xor_from` meets its contract. Assumes nothing.
-use mathlib.Core.Path.{_≡_, ap, _∙_}
-use mathlib.Core.List.{List}
+use mathlib.Core.Path.{ap, _∙_}
 use lib.ListN.{length}
 use Rattle.octets.specs.Xor.{_⊻_}
 use Rattle.octets.specs.Part.{mid-part}

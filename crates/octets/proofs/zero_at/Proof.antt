@@ -1,9 +1,8 @@
 -- `octets::zero_at` meets its contract: the zeros that `fill_zero` leaves come back in the part's place. Assumes nothing.
-use mathlib.Core.Path.{_≡_, ap, _∙_}
-use Prim.Native.Nat.{ℕ, _+_, _-_}
-use native.Mathlib.Omega.{arith}
-use lib.ListN.{length, take, drop, replicate, length-take, length-drop}
-use Rattle.octets.specs.Part.{part, length-part, mid-part}
+use mathlib.Core.Path.{ap, _∙_}
+use Prim.Native.Nat.{ℕ}
+use lib.ListN.{length, replicate}
+use Rattle.octets.specs.Part.{length-part, mid-part}
 use Rattle.octets.specs.Put.{put, put-back}
 use borrow.Author.Needs.{needs}
 use Rattle.octets.proofs.zero_at.Statement.{statement}

@@ -4,7 +4,8 @@ use native.Mathlib.Omega.{arith}
 use borrow.Author.Needs.{needs}
 use Rattle.geometry.specs.Frame.{framed-long}
 use Rattle.licence.specs.Granted.{granted}
-use Rattle.shelf.specs.Stepped.{stopped, went, licensed}
+use Rattle.meaning.specs.Stepped.{stopped, went}
+use Rattle.shelf.specs.Licensed.{licensed}
 use Rattle.shelf.proofs.step.Statement.{statement}
 use Rattle.shelf.proofs.step.Tie as tie
 

@@ -2,7 +2,7 @@
 use mathlib.Core.Path.{refl}
 use native.Mathlib.Omega.{arith}
 use borrow.Author.Needs.{needs}
-use Rattle.shelf_c.specs.Interface.{too-short, carried, told-long, fits-count}
+use Rattle.shelf_c.specs.Interface.{too-short, long-enough, told-long, fits-count}
 use Rattle.shelf_c.proofs.shelf_step.Statement.{statement}
 use Rattle.shelf_c.proofs.shelf_step.Tie as tie
 
@@ -26,7 +26,7 @@ returns-2 c =
     let step = c .before .before .before .before .before .before .before .before .before .before .before .before .before .step in
     let number = c .number in
     let put-at = c .before .before .before .before .put-at in
-    carried _ _ _ _ _ _ _ _ _ _ _ _ _ (if1 .left) (step .ensures) (number .ensures) (put-at .ensures) refl
+    long-enough _ _ _ _ _ _ _ _ _ _ _ _ _ (if1 .left) (step .ensures) (number .ensures) (put-at .ensures) refl
 
 pub shelf-step-spec : {M : Type 1} → statement M
 shelf-step-spec =

@@ -1,11 +1,11 @@
 -- `text::put_fitted` meets its contract. Assumes nothing.
 use borrow.Author.Needs.{needs}
-use Rattle.text.specs.Room.{fits, too-short}
+use Rattle.text.specs.Room.{fits, unfitted}
 use Rattle.text.proofs.put_fitted.Statement.{statement}
 use Rattle.text.proofs.put_fitted.Tie as tie
 
 returns : tie.Need-returns
-returns c = too-short _ _ (c .if1 .taken)
+returns c = unfitted _ _ (c .if1 .taken)
 
 returns-2 : tie.Need-returns-2
 returns-2 c = fits _ _ _ _ (c .before .before .before .before .if1 .left) (c .before .before .put-word .ensures)

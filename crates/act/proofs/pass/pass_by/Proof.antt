@@ -4,18 +4,18 @@ use Prim.Native.Nat.{_≤_, _-_}
 use native.Mathlib.Omega.{arith}
 use lib.ListN.{length}
 use borrow.Author.Needs.{needs}
-use Rattle.act.specs.PassTurns.{reached, reached-none, reached-clear, reached-more, reached-all}
+use Rattle.act.specs.PassTurns.{passedTo, passed-none, still-passable, passed-more, passed-all}
 use Rattle.act.proofs.pass.pass_by.Statement.{statement}
 use Rattle.act.proofs.pass.pass_by.Tie as tie
 
 abbrev Inv-loop : tie.InvT-loop
-Inv-loop image₀ sent p buf₀ n o₀ image buf o = (o ≤ length sent) × (length image ≡ length image₀) × (length buf ≡ length buf₀) × (image ≡ reached image₀ sent p o)
+Inv-loop image₀ sent p buf₀ n o₀ image buf o = (o ≤ length sent) × (length image ≡ length image₀) × (length buf ≡ length buf₀) × (image ≡ passedTo image₀ sent p o)
 
 abbrev μ-loop : tie.MeasureT-loop
 μ-loop image₀ sent p buf₀ n o₀ image buf o = length sent - o
 
 loop-holds : tie.Need-loop-holds Inv-loop μ-loop
-loop-holds c = (omega arith, refl, refl, reached-none _ _ _)
+loop-holds c = (omega arith, refl, refl, passed-none _ _ _)
 
 least-requires : tie.Need-least-requires Inv-loop μ-loop
 least-requires c κs = tt
@@ -25,7 +25,7 @@ pass-front-requires c κs =
     let pre = c .before .before .before .before .before .before .before .before .pre in
     let the-loop = c .before .before .before .before .loop in
     let least = c .before .before .least in
-    (reached-clear _ _ _ (pre .0) _ _ (the-loop .inv .3), omega (arith, least .ensures), omega (arith, least .ensures))
+    (still-passable _ _ _ (pre .0) _ _ (the-loop .inv .3), omega (arith, least .ensures), omega (arith, least .ensures))
 
 loop-less : tie.Need-loop-less Inv-loop μ-loop
 loop-less c = omega (arith, c .before .before .before .before .before .before .before .least .ensures)
@@ -36,13 +36,13 @@ loop-again c =
     let pass-front = c .before .before .before .before .pass-front in
     let pre = c .before .before .before .before .before .before .before .before .before .before .before .before .before .pre in
     let the-loop = c .before .before .before .before .before .before .before .before .before .loop in
-    (omega (arith, least .ensures), omega (arith, pass-front .kept .0), omega (arith, pass-front .kept .1), reached-more _ _ _ (pre .0) _ _ (the-loop .inv .3) _ (omega (arith, least .ensures)) _ (pass-front .ensures))
+    (omega (arith, least .ensures), omega (arith, pass-front .kept .0), omega (arith, pass-front .kept .1), passed-more _ _ _ (pre .0) _ _ (the-loop .inv .3) _ (omega (arith, least .ensures)) _ (pass-front .ensures))
 
 returns : tie.Need-returns Inv-loop μ-loop
 returns c =
     let pre = c .before .before .before .before .before .pre in
     let the-loop = c .before .loop in
-    reached-all _ _ _ (pre .0) _ _ (the-loop .inv .3) (omega arith)
+    passed-all _ _ _ (pre .0) _ _ (the-loop .inv .3) (omega arith)
 
 pub pass-by-spec : {M : Type 1} → statement M
 pass-by-spec =

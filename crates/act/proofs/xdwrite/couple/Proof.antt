@@ -1,6 +1,6 @@
 -- `act::xdwrite::couple` meets its contract. Assumes nothing.
 use borrow.Author.Needs.{needs}
-use Rattle.act.specs.Xdwrite.{couple-clear, coupled-by}
+use Rattle.act.specs.Xdwrite.{couple-passable, coupled-by}
 use Rattle.act.proofs.xdwrite.couple.Statement.{statement}
 use Rattle.act.proofs.xdwrite.couple.Tie as tie
 
@@ -9,7 +9,7 @@ pass-on-requires c κs =
     let pre = c .before .before .before .before .before .pre in
     let place = c .before .before .place in
     let place2 = c .before .place2 in
-    couple-clear _ _ _ _ _ _ _ _ (pre .1 .2) (pre .1 .4) (place .ensures .0) (place2 .ensures .0) (pre .0) (pre .1 .0) (pre .1 .1) (pre .1 .3)
+    couple-passable _ _ _ _ _ _ _ _ (pre .1 .2) (pre .1 .4) (place .ensures .0) (place2 .ensures .0) (pre .0) (pre .1 .0) (pre .1 .1) (pre .1 .3)
 
 returns : tie.Need-returns
 returns c =

@@ -1,6 +1,6 @@
 -- `act::xdwrite::retain` meets its contract. Assumes nothing.
 use borrow.Author.Needs.{needs}
-use Rattle.act.specs.Xdwrite.{retain-clear, retained-by}
+use Rattle.act.specs.Xdwrite.{retain-passable, retained-by}
 use Rattle.act.proofs.xdwrite.retain.Statement.{statement}
 use Rattle.act.proofs.xdwrite.retain.Tie as tie
 
@@ -10,7 +10,7 @@ pass-on-requires c κs =
     let pre = c .before .before .before .before .before .before .before .pre in
     let place = c .before .place in
     let slot-at = c .before .before .slot-at in
-    retain-clear _ _ _ (args .i) _ (args .ndisc) _ _ _ (pre .1 .1) (place .ensures .0) (slot-at .ensures .0) (pre .0) (pre .1 .0) (pre .1 .2) (pre .1 .3)
+    retain-passable _ _ _ (args .i) _ (args .ndisc) _ _ _ (pre .1 .1) (place .ensures .0) (slot-at .ensures .0) (pre .0) (pre .1 .0) (pre .1 .2) (pre .1 .3)
 
 returns : tie.Need-returns
 returns c =

@@ -4,8 +4,8 @@ use native.Mathlib.Omega.{arith}
 use lib.ListN.{length}
 use lib.Seq.{length-take-le}
 use borrow.Author.Needs.{needs}
+use Rattle.rules.specs.Same.{sameList}
 use Rattle.text.specs.Room.{wrote-then}
-use Rattle.words.specs.Words.{sameWord}
 use Rattle.words.specs.Unhex.{front}
 use Rattle.calls.specs.Wrote.{word-short, shown-same, shown-new}
 use Rattle.calls.proofs.shown.put_by.Statement.{statement}
@@ -42,7 +42,7 @@ returns c =
     let put-word2 = c .before .before .put-word2 in
     let short = word-short (args .w .now) (args .bytes .now) (pre .0 .0) in
     let written = front (put-bytes .ensures) (omega arith) in (
-      rw (shown-same _ _ (ap (sameWord (args .w .now)) (sym written) ∙ sym (same .ensures) ∙ if1 .taken)) (wrote-then (put-word .ensures) (put-word2 .ensures)),
+      rw (shown-same _ _ (ap (sameList (args .w .now)) (sym written) ∙ sym (same .ensures) ∙ if1 .taken)) (wrote-then (put-word .ensures) (put-word2 .ensures)),
       omega (arith, put-word .ensures .ends, put-word2 .ensures .ends),
     )
 
@@ -81,7 +81,7 @@ returns-2 c =
     let put-word3 = c .before .before .put-word3 in
     let short = word-short (args .w .now) (args .bytes .now) (pre .0 .0) in
     let written = front (put-bytes .ensures) (omega arith) in
-    let new = shown-new _ _ (ap (sameWord (args .w .now)) (sym written) ∙ sym (same .ensures) ∙ if1 .left) in
+    let new = shown-new _ _ (ap (sameList (args .w .now)) (sym written) ∙ sym (same .ensures) ∙ if1 .left) in
     let both = wrote-then (put-word .ensures) (put-word3 .ensures) in
     (rw new (rw written at both), omega (arith, put-word .ensures .ends, put-word3 .ensures .ends, ap length written))
 

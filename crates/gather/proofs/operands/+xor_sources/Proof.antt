@@ -1,5 +1,5 @@
 -- `gather::operands::xor_sources` meets its contract. It calls itself with fewer sources, so its measure is how many are left. Assumes nothing.
-use mathlib.Core.Path.{_≡_, refl, _∙_}
+use mathlib.Core.Path.{refl, _∙_}
 use native.Mathlib.Omega.{arith}
 use Rattle.gather.specs.Pieces.{atOnce}
 use Rattle.gather.specs.Steps.{sources-end, sources-more, some-at-once, rest-within}

@@ -1,13 +1,12 @@
 -- `octets::number::number` meets its contract. The loop's invariant: v is the number in the bytes passed. Assumes nothing.
-use mathlib.Core.Path.{_≡_, refl, ap, sym, _∙_}
-use Prim.Native.Nat.{ℕ, _≤_, _-_, _<_, _^_}
+use mathlib.Core.Path.{_≡_, refl}
+use Prim.Native.Nat.{_≤_, _-_, _<_, _^_}
 use native.Mathlib.Omega.{arith}
 use native.Mathlib.Nat.{pow-le-pow-right, pow-suc}
-use lib.ListN.{length}
 use native.Mathlib.Numerals.{add-one}
 use lib.Dec.{lit<}
 use Rattle.octets.specs.Part.{part, part-snoc}
-use Rattle.octets.specs.Number.{be, num, num-snoc, be-lt}
+use Rattle.octets.specs.Number.{be, num, num-snoc}
 use Rattle.octets.proofs.number.number.Statement.{statement}
 use Rattle.octets.proofs.number.number.Tie as tie
 

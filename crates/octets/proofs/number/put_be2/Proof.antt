@@ -1,5 +1,5 @@
 -- `octets::number::put_be2` meets its contract. Assumes nothing.
-use mathlib.Core.Path.{_≡_, ap, sym, _∙_}
+use mathlib.Core.Path.{ap, sym, _∙_}
 use Rattle.octets.specs.Put.{put}
 use Rattle.octets.specs.Number.{toBe2}
 use borrow.Author.Needs.{needs}

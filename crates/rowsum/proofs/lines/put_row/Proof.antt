@@ -4,7 +4,7 @@ use native.Mathlib.Omega.{arith}
 use lib.ListN.{length}
 use borrow.Author.Tests.{not-true, not-false}
 use borrow.Author.Needs.{needs}
-use Rattle.sums.specs.Bytes.{length-sum}
+use Rattle.sums.specs.Length.{length-sum}
 use Rattle.text.specs.Room.{wrote-none}
 use Rattle.rowsum.specs.Turns.{line-shut, line-open, length-line}
 use Rattle.rowsum.proofs.lines.put_row.Statement.{statement}

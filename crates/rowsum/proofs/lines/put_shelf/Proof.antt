@@ -1,7 +1,7 @@
 -- `rowsum::lines::put_shelf` meets its contract. Assumes nothing.
 use native.Mathlib.Omega.{arith}
 use borrow.Author.Needs.{needs}
-use Rattle.text.specs.Room.{fits, too-short}
+use Rattle.text.specs.Room.{fits, unfitted}
 use Rattle.rowsum.specs.Turns.{length-head}
 use Rattle.rowsum.specs.Tally.{shelf-long, shelf-wrote}
 use Rattle.rowsum.proofs.lines.put_shelf.Statement.{statement}
@@ -13,7 +13,7 @@ returns c =
     let counted = c .before .before .before .before .before in
     let args = counted .before .before .before .before .before .args in
     let long = shelf-long (args .image .now) (args .g) _ _ (counted .count-rows .ensures .0) in
-    (counted .count-rows .ensures .1, too-short _ _ (omega (arith, c .if1 .taken, head-length .ensures .0, long)))
+    (counted .count-rows .ensures .1, unfitted _ _ (omega (arith, c .if1 .taken, head-length .ensures .0, long)))
 
 put-rows-requires : tie.Need-put-rows-requires
 put-rows-requires c κs =

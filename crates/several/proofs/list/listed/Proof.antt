@@ -2,17 +2,17 @@
 use mathlib.Core.Path.{_∙_}
 use borrow.Author.Needs.{needs}
 use Rattle.rules.specs.Tests.{tests}
-use Rattle.several.specs.Stages.{listedOf}
+use Rattle.several.specs.Stages.{listSizedOf}
 use Rattle.several.specs.Laws.{listed-on}
 use Rattle.several.proofs.list.listed.Statement.{statement}
 use Rattle.several.proofs.list.listed.Tie as tie
 
 returns : tie.Need-returns
-unfolding listedOf
+unfolding listSizedOf
 returns c = search tests
 
 returns-2 : tie.Need-returns-2
-unfolding listedOf
+unfolding listSizedOf
 returns-2 c = search tests
 
 returns-3 : tie.Need-returns-3

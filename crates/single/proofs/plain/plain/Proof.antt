@@ -1,28 +1,28 @@
 -- `single::plain::plain` meets its contract. Assumes nothing.
 use borrow.Author.Needs.{needs}
 use Rattle.rules.specs.Tests.{tests}
-use Rattle.single.specs.Stages.{plainOf}
+use Rattle.single.specs.Stages.{plainStage}
 use Rattle.single.proofs.plain.plain.Statement.{statement}
 use Rattle.single.proofs.plain.plain.Tie as tie
 
 returns : tie.Need-returns
-unfolding plainOf
+unfolding plainStage
 returns c = search tests
 
 returns-2 : tie.Need-returns-2
-unfolding plainOf
+unfolding plainStage
 returns-2 c = search tests
 
 returns-3 : tie.Need-returns-3
-unfolding plainOf
+unfolding plainStage
 returns-3 c = search tests
 
 returns-4 : tie.Need-returns-4
-unfolding plainOf
+unfolding plainStage
 returns-4 c = search tests
 
 returns-5 : tie.Need-returns-5
-unfolding plainOf
+unfolding plainStage
 returns-5 c = search tests
 
 pub plain-spec : {M : Type 1} → statement M

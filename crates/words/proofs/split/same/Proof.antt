@@ -8,7 +8,7 @@ use lib.ListN.{getD}
 use borrow.Author.Tests.{eq-eqb, ne-eqb}
 use borrow.Author.Needs.{needs}
 use Rattle.rules.specs.All.{allBelow, all-none, all-more, all-stop, all-done}
-use Rattle.words.specs.Words.{sameWord}
+use Rattle.rules.specs.Same.{sameList}
 use Rattle.words.proofs.split.same.Statement.{statement}
 use Rattle.words.proofs.split.same.Tie as tie
 
@@ -19,14 +19,14 @@ abbrev μ-loop : tie.MeasureT-loop
 μ-loop v w n j₀ j = n - j
 
 returns : tie.Need-returns Inv-loop μ-loop
-unfolding sameWord
+unfolding sameList
 returns c = rw (ne-eqb _ _ (c .if1 .taken))
 
 loop-holds : tie.Need-loop-holds Inv-loop μ-loop
 loop-holds c = (search needs, all-none _)
 
 returns-2 : tie.Need-returns-2 Inv-loop μ-loop
-unfolding sameWord
+unfolding sameList
 returns-2 c =
     let if1 = c .before .before .before .before .before .if1 in
     let the-loop = c .before .before .before .before .loop in
@@ -37,7 +37,7 @@ loop-again : tie.Need-loop-again Inv-loop μ-loop
 loop-again c = (omega arith, all-more _ _ (c .before .before .before .before .loop .inv .1) (eq-eqb _ _ (c .if2 .left)))
 
 returns-3 : tie.Need-returns-3 Inv-loop μ-loop
-unfolding sameWord
+unfolding sameList
 returns-3 c =
     let if1 = c .before .before .if1 in
     let the-loop = c .before .loop in

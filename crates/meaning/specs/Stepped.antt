@@ -1,27 +1,20 @@
 -- What a call leaves, by name: the answer, the image, the receive room. Assumes nothing.
-use mathlib.Core.Path.{_≡_, sym, ap, subst, _∙_}
+use mathlib.Core.Path.{_≡_, sym, ap, _∙_}
 use mathlib.Core.List.{List}
 use Prim.Native.Nat.{ℕ}
 use lib.ListN.{length}
 use Rattle.octets.specs.Put.{put}
-use Rattle.octets.specs.Octets.{Octets}
 use Rattle.geometry.specs.declared.Geometry.{Geometry}
 use Rattle.geometry.specs.Header.{geometryOf}
-use Rattle.geometry.specs.Frame.{Framed}
-use Rattle.image.specs.Shelf.{shelf-frame}
 use Rattle.sense.specs.declared.Answer.{Answer}
 use Rattle.sense.specs.declared.Outcome.{Outcome}
 use Rattle.sense.specs.Sense.{outcomeOf}
 use Rattle.meaning.specs.declared.Act.{Act}
 use Rattle.meaning.specs.declared.Seen.{Seen}
 use Rattle.meaning.specs.declared.Decision.{Decision}
 use Rattle.meaning.specs.declared.Decision.the-variants.{Stop, Go}
 use Rattle.meaning.specs.Acts.{leaves, hands}
-use Rattle.meaning.specs.Allowed.{Allowed, Few}
-use Rattle.meaning.specs.Checks.{decideOf}
 use Rattle.meaning.specs.Step.{decided, imageAfter, roomAfter, outcomeAfter, stepImage, stepRoom, stepOutcome, resetAnswer, resetImage, markAnswer, markImage}
-use Rattle.licence.specs.Granted.{granted}
-use Rattle.licence.specs.Few.{few}
 
 -- image m, target a, CDB c, data-out bytes s and receive room r become outcome o, image m′ and room r′
 pub record Stepped (m : List ℕ) (a : ℕ) (c s r : List ℕ) (o : Outcome) (m′ r′ : List ℕ) : Type 0 where
@@ -60,13 +53,3 @@ module _ (m : List ℕ) (a : ℕ) (c s r : List ℕ) where
         image = p ∙ ap (λ (j : Geometry). leaves m j s act) h ∙ sym (ap (λ (d : Decision). imageAfter d m s) e);
         room = q ∙ ap (λ (j : Geometry). put r 0 (hands m j act)) h ∙ sym (ap (λ (d : Decision). roomAfter d m r) e);
       }
-
--- what the code that acts asks
-pub licensed : (m : List ℕ) (a : ℕ) (c s : List ℕ) (r : ℕ) (act : Act) (x : Answer) (g : Geometry) → g ≡ geometryOf m → decideOf m a c s r ≡ Go act x → Octets s
-    → Framed m g × Allowed m g s r act × Few act
-licensed m a c s r act x g h e b =
-    let f = granted m a c s r act x e in (
-      subst (Framed m) (sym h) (shelf-frame m (geometryOf m) (f .valid)),
-      subst (λ (k : Geometry). Allowed m k s r act) (sym h) (f .allowed),
-      few m a c s r act x b e,
-    )

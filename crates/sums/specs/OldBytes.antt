@@ -1,4 +1,4 @@
--- Over adjoining rows whose sums are zero, the XOR of every other drive's blocks is the old bytes of the drive left out. Assumes nothing.
+-- Over adjoining rows whose sums are zero, the XOR of every other drive's blocks is the bytes of the drive left out. Assumes nothing.
 use Prim.Native.Nat.{ℕ, _+_, _*_, _≤_, _<_}
 use native.Mathlib.Omega.{arith}
 use mathlib.Core.Path.{_≡_, refl, sym, ap, ap₂, _∙_}
@@ -7,14 +7,18 @@ use lib.ListN.{length, replicate}
 use Rattle.octets.specs.Part.{part, length-part, part-part}
 use Rattle.octets.specs.Pieces.{block-inside, blocks-ext}
 use Rattle.octets.specs.Operands.{xorAll, Long, length-xorAll, partsOf, part-xorAll}
+use Rattle.rules.specs.Each.{EachIs, each-map, perm-length, perm-each}
 use Rattle.geometry.specs.declared.Geometry.{Geometry}
 use Rattle.geometry.specs.Header.{place}
 use Rattle.geometry.specs.Frame.{Framed}
-use Rattle.geometry.specs.Places.{Range, place-on, range-room}
+use Rattle.geometry.specs.Places.{Range, place-on, range-long}
 use Rattle.sums.specs.Row.{blockIn, rowSum}
-use Rattle.sums.specs.Bytes.{length-block}
-use Rattle.callers.specs.Each.{EachIs}
-use Rattle.parity.specs.Others.{others, Other, perm-length, perm-each, others-each, length-others, left-out}
+use Rattle.sums.specs.Length.{length-block}
+use Rattle.sums.specs.Others.{others, Other, others-each, length-others, left-out}
+
+-- a sum of zeros in each of the n rows from row b on
+abbrev pub ZeroSums : List ℕ → Geometry → ℕ → ℕ → Type 0
+ZeroSums m g b n = (r : ℕ) → b ≤ r → r < b + n → rowSum m g r ≡ replicate (g .l) 0
 
 -- drive e's blocks of the n rows from row b on
 abbrev pub rowsOf : List ℕ → Geometry → ℕ → ℕ → ℕ → List ℕ
@@ -38,11 +42,10 @@ module _ (m : List ℕ) (g : Geometry) (f : Framed m g) (b n : ℕ) where
 
   module _ (d : ℕ) (w : Range g d b n) where
     pub length-rows : (e : ℕ) → e < g .d → length (rows e) ≡ n * g .l
-    length-rows e l = length-part m (place g e b) (n * g .l) (range-room m g e b n f (record { drive-in = l; range-in = w .range-in }))
+    length-rows e l = range-long m g e b n f (record { drive-in = l; range-in = w .range-in })
 
     long-rows : (es : List ℕ) → EachIs (Other (g .d) d) es → Long (n * g .l) (map rows es)
-    long-rows [] h = tt
-    long-rows (e ∷ es) h = (length-rows e (h .0 .0), long-rows es (h .1))
+    long-rows = each-map rows (Other (g .d) d) (λ (x : List ℕ). length x ≡ n * g .l) (λ e o. length-rows e (o .0))
 
     length-xor-rows : (es : List ℕ) → List·Permᴰ es (others (g .d) d) → EachIs (Other (g .d) d) es → length (xorAll (map rows es)) ≡ n * g .l
     length-xor-rows [] p h =
@@ -50,8 +53,7 @@ module _ (m : List ℕ) (g : Geometry) (f : Framed m g) (b n : ℕ) where
         absurd (omega (arith, length-others (g .d) d (w .drive-in), f .placed .ranges .d-low))
     length-xor-rows (e ∷ es) p h = length-xorAll (n * g .l) (rows e) (map rows es) (long-rows (e ∷ es) h)
 
-    pub old-bytes : (es : List ℕ) → List·Permᴰ es (others (g .d) d) → ((r : ℕ) → b ≤ r → r < b + n → rowSum m g r ≡ replicate (g .l) 0)
-        → xorAll (map rows es) ≡ rows d
+    pub old-bytes : (es : List ℕ) → List·Permᴰ es (others (g .d) d) → ZeroSums m g b n → xorAll (map rows es) ≡ rows d
     old-bytes es p zero-sums =
         let lx = length-xor-rows es p (perm-each (Other (g .d) d) p (others-each (g .d) d)) in
         blocks-ext (g .l) (xorAll (map rows es)) (rows d) n lx (length-rows d (w .drive-in))

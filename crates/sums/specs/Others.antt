@@ -3,59 +3,32 @@ use Prim.Native.Nat.{ℕ, zero, suc, _≤_, _<_}
 use native.Mathlib.Nat.{not-suc-le-zero}
 use native.Mathlib.Omega.{arith}
 use mathlib.Core.Bool.{true, false, cond}
-use mathlib.Core.Path.{_≡_, refl, sym, ap, ap₂, subst, _∙_}
+use mathlib.Core.Path.{_≡_, refl, sym, ap, ap₂, _∙_}
 use mathlib.Core.Logic.{⊎-elim}
-use mathlib.Core.List.{List, [], _∷_, map, List·Permᴰ, List·Permᴰ·nil, List·Permᴰ·cons, List·Permᴰ·swap, List·Permᴰ·trans}
+use mathlib.Core.List.{List, [], _∷_, map, List·Permᴰ, Permᴰ·map}
 use lib.Dec.{eqb}
 use lib.ListN.{length, replicate}
 use borrow.Author.Tests.{eq-eqb, ne-eqb, eqb-false}
 use Rattle.octets.specs.Xor.{_⊻_, xor-commutes, xor-swaps, xor-cancels, zeros-xor}
 use Rattle.octets.specs.Operands.{xorAll, xorAll-perm}
 use Rattle.rules.specs.Cases.{either, last-or-below}
+use Rattle.rules.specs.Each.{EachIs, each-implies}
 use Rattle.geometry.specs.declared.Geometry.{Geometry}
 use Rattle.sums.specs.Row.{blockIn, summedTo, rowSum}
-use Rattle.callers.specs.Each.{EachIs}
 
 -- the drives below n but drive d
 abbrev pub others : ℕ → ℕ → List ℕ
 others zero d = []
 others (suc n) d = cond (eqb n d) (others n d) (n ∷ others n d)
 
--- ---- lists in another order
-
-module _ {A : Type 0} where
-  perm-map : {B : Type 0} (f : A → B) {xs ys : List A} → List·Permᴰ xs ys → List·Permᴰ (map f xs) (map f ys)
-  perm-map f List·Permᴰ·nil = List·Permᴰ·nil
-  perm-map f (List·Permᴰ·cons e p) = List·Permᴰ·cons (ap f e) (perm-map f p)
-  perm-map f (List·Permᴰ·swap d e) = List·Permᴰ·swap (ap f d) (ap f e)
-  perm-map f (List·Permᴰ·trans p q) = List·Permᴰ·trans (perm-map f p) (perm-map f q)
-
-  pub perm-length : {xs ys : List A} → List·Permᴰ xs ys → length xs ≡ length ys
-  perm-length List·Permᴰ·nil = refl
-  perm-length (List·Permᴰ·cons e p) = ap suc (perm-length p)
-  perm-length (List·Permᴰ·swap d e) = refl
-  perm-length (List·Permᴰ·trans p q) = perm-length p ∙ perm-length q
-
-  pub perm-each : (P : A → Type 0) {xs ys : List A} → List·Permᴰ xs ys → EachIs P ys → EachIs P xs
-  perm-each P List·Permᴰ·nil h = tt
-  perm-each P (List·Permᴰ·cons e p) h = (subst P (sym e) (h .0), perm-each P p (h .1))
-  perm-each P (List·Permᴰ·swap d e) h = (subst P (sym d) (h .1 .0), (subst P (sym e) (h .0), h .1 .1))
-  perm-each P (List·Permᴰ·trans p q) h = perm-each P p (perm-each P q h)
-
--- ---- the others
-
 -- another drive of a shelf of n
 abbrev pub Other : ℕ → ℕ → ℕ → Type 0
 Other n d e = (e < n) × (e ≡ d → ⊥)
 
-each-more : (n d : ℕ) (xs : List ℕ) → EachIs (Other n d) xs → EachIs (Other (suc n) d) xs
-each-more n d [] h = tt
-each-more n d (x ∷ xs) h = ((omega (arith, h .0 .0), h .0 .1), each-more n d xs (h .1))
-
 pub others-each : (n d : ℕ) → EachIs (Other n d) (others n d)
 others-each zero d = tt
 others-each (suc n) d =
-    let rest = each-more n d (others n d) (others-each n d) in
+    let rest = each-implies (Other n d) (Other (suc n) d) (λ e o. (omega (arith, o .0), o .1)) (others n d) (others-each n d) in
     ⊎-elim (λ (t : eqb n d ≡ true). rw t rest) (λ (t : eqb n d ≡ false). rw t ((omega arith, eqb-false n d t), rest)) (either (eqb n d))
 
 length-all : (n d : ℕ) → n ≤ d → length (others n d) ≡ n
@@ -102,7 +75,7 @@ module _ (s : List ℕ) (g : Geometry) (r : ℕ) where
   pub left-out : (d : ℕ) (es : List ℕ) → d < g .d → List·Permᴰ es (others (g .d) d) → rowSum s g r ≡ replicate (g .l) 0
       → length (blockIn s g r d) ≡ g .l → length (all es) ≡ g .l → all es ≡ blockIn s g r d
   left-out d es l p z lb la =
-      let e : all es ≡ all (others (g .d) d) = xorAll-perm (perm-map (blockIn s g r) p) in
+      let e : all es ≡ all (others (g .d) d) = xorAll-perm (Permᴰ·map (blockIn s g r) p) in
       sym (xor-cancels (all es) (blockIn s g r d) (omega arith))
       ∙ ap (λ (o : List ℕ). o ⊻ blockIn s g r d) (ap (λ (o : List ℕ). o ⊻ blockIn s g r d) e ∙ sym (sum-split d l) ∙ z)
       ∙ zeros-xor (blockIn s g r d) (g .l) (omega arith)
