@@ -9,7 +9,7 @@ use Rattle.octets.specs.Part.{part}
 use Rattle.octets.specs.Put.{put}
 use Rattle.octets.specs.PutPut.{part-put}
 use Rattle.geometry.specs.declared.Geometry.{Geometry}
-use Rattle.geometry.specs.Header.{place}
+use Rattle.geometry.specs.Header.{place, blocksAt}
 use Rattle.geometry.specs.Places.{range-room}
 use Rattle.drives.specs.Front.{SameFront, failed-same, drive-same}
 use Rattle.drives.specs.Lookup.{drive-inside}
@@ -65,7 +65,7 @@ module _ (m : List ℕ) (g : Geometry) (a t : ℕ) (h : Target m g a t) (b n : �
   then-read fits =
       let h′ = next m g a (writeCdb 0 b n) s r 0 after r wrote a t h in
       let f = shelf-frame m g (h .shelf) in
-      let q : part after (place g t b) (n * g .l) ≡ s =
+      let q : blocksAt after g t b n ≡ s =
       ap (part after (place g t b)) (sym e) ∙ part-put m (place g t b) s (omega (arith, e, range-room m g t b n f (w .range))) in
       subst (λ (x : List ℕ). Does after a (readCdb 0 b n) [] r (n * g .l) after (put r 0 x)) q
       (read-does after g a t h′ b n r fits 0 refl small (record { range = w .range; present = h′ .present; some = w .some }))

@@ -14,7 +14,7 @@ use Rattle.octets.specs.Xor.{_⊻_}
 use Rattle.octets.specs.Operands.{xorAll}
 use Rattle.rules.specs.Each.{EachIs}
 use Rattle.geometry.specs.declared.Geometry.{Geometry}
-use Rattle.geometry.specs.Header.{place}
+use Rattle.geometry.specs.Header.{place, blocksAt}
 use Rattle.image.specs.Shelf.{shelf-frame}
 use Rattle.command.specs.declared.Source.{Source}
 use Rattle.command.specs.Command.{sourceOf}
@@ -70,9 +70,9 @@ module _ (m : List ℕ) (g : Geometry) (a t : ℕ) (h : Target m g a t) (b n : �
     -- REGENERATE: the XOR of the target's own blocks and the operands is retained in slot i
     pub regenerate-lists : Limited g (blocks t b n) → (i : ℕ) → Free m g i
         → Does m a (regenerateCdb flags n (length es)) (listOf b es d) r 0
-        (stored m (slotStores m g i 2 (blocks t b n) (part m (place g t b) (n * g .l) ⊻ xorAll (operands m g n es int d)))) r
+        (stored m (slotStores m g i 2 (blocks t b n) (blocksAt m g t b n ⊻ xorAll (operands m g n es int d)))) r
     regenerate-lists most i v =
         subst (λ (x : List ℕ). Does m a (regenerateCdb flags n (length es)) (listOf b es d) r 0
-        (stored m (slotStores m g i 2 (blocks t b n) (part m (place g t b) (n * g .l) ⊻ x))) r) gathered-is
+        (stored m (slotStores m g i 2 (blocks t b n) (blocksAt m g t b n ⊻ x))) r) gathered-is
         (regenerate-does m g a t h b n (length es) flags int (listOf b es d) r z (list-headed b es d small) few w
         (list-sourced m g (h .shelf) (blocks t b n) b es d each int one long) most i v)

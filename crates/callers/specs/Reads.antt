@@ -14,7 +14,7 @@ use Rattle.rules.specs.declared.Found.{Found}
 use Rattle.rules.specs.Every.{holds}
 use Rattle.rules.specs.Least.{index}
 use Rattle.geometry.specs.declared.Geometry.{Geometry}
-use Rattle.geometry.specs.Header.{dataAt, place}
+use Rattle.geometry.specs.Header.{dataAt, blocksAt}
 use Rattle.geometry.specs.Frame.{Framed}
 use Rattle.geometry.specs.Places.{range-long, data-in}
 use Rattle.slots.specs.Record.{slotOf}
@@ -37,10 +37,10 @@ module _ (m : List ℕ) (g : Geometry) (a t : ℕ) (h : Target m g a t) (b n : �
 
   -- READ: the blocks go to the room's front; of byte 1 only "bit 4 DPO, 3 FUA" may be set
   pub read-does : (flags : ℕ) → bitAnd flags 0xE7 ≡ 0 → n < 65536 → Blocks m g (blocks t b n)
-      → Does m a (readCdb flags b n) [] r (n * g .l) m (put r 0 (part m (place g t b) (n * g .l)))
+      → Does m a (readCdb flags b n) [] r (n * g .l) m (put r 0 (blocksAt m g t b n))
   read-does flags z small w =
       let most = f .placed .ranges .b-high in
-      subst (λ (j : ℕ). Does m a (readCdb flags b n) [] r j m (put r 0 (part m (place g t b) (n * g .l))))
+      subst (λ (j : ℕ). Does m a (readCdb flags b n) [] r j m (put r 0 (blocksAt m g t b n)))
       (range-long m g t b n f (w .range))
       (does m g a t h (readCdb flags b n) [] r Read (tenSaying Read flags b n) (ToRead (blocks t b n))
       (ten-says Read flags b n tt (omega (arith, w .range .range-in)) small)

@@ -7,13 +7,12 @@ use mathlib.Core.Logic.{_⊎_, inl, inr}
 use mathlib.Core.List.{List, []}
 use lib.Dec.{ltb, eqb}
 use borrow.Author.Tests.{le-ltb, ne-eqb, eqb-false}
-use Rattle.octets.specs.Part.{part}
 use Rattle.octets.specs.Put.{put}
 use Rattle.octets.specs.Xor.{_⊻_}
 use Rattle.rules.specs.declared.Found.{Found}
 use Rattle.rules.specs.Least.{index}
 use Rattle.geometry.specs.declared.Geometry.{Geometry}
-use Rattle.geometry.specs.Header.{place}
+use Rattle.geometry.specs.Header.{place, blocksAt}
 use Rattle.slots.specs.Find.{emptySlot}
 use Rattle.image.specs.Shelf.{shelf-frame}
 use Rattle.sense.specs.declared.Answer.the-variants.{Good}
@@ -62,7 +61,7 @@ module _ (m : List ℕ) (g : Geometry) (a t : ℕ) (h : Target m g a t) (b n sou
   -- REGENERATE: that and the target's own blocks, XORed, are retained in slot i
   pub regenerate-does : Limited g (blocks t b n) → (i : ℕ) → Free m g i
       → Does m a (regenerateCdb flags n sources) s r 0
-      (stored m (slotStores m g i 2 (blocks t b n) (part m (place g t b) (n * g .l) ⊻ gathered m g s n sources int))) r
+      (stored m (slotStores m g i 2 (blocks t b n) (blocksAt m g t b n ⊻ gathered m g s n sources int))) r
   regenerate-does small i u =
       let q = resolves (g .b) b n n (w .some) (w .range .range-in) most (inl refl) in
       let e : (eqb int 0 ≡ false → n ≡ n) = (λ x. refl) in

@@ -12,7 +12,7 @@ use Rattle.octets.specs.Xor.{_⊻_}
 use Rattle.rules.specs.declared.Found.{Found}
 use Rattle.rules.specs.declared.Found.the-variants.{At, Nothing}
 use Rattle.geometry.specs.declared.Geometry.{Geometry}
-use Rattle.geometry.specs.Header.{dataAt, place}
+use Rattle.geometry.specs.Header.{dataAt, blocksAt}
 use Rattle.slots.specs.Find.{emptySlot, newestOf}
 use Rattle.slots.specs.Change.{released}
 use Rattle.results.specs.First.{firstOf, sansFirst}
@@ -79,7 +79,7 @@ module _ (m : List ℕ) (g : Geometry) (a t : ℕ) (h : Target m g a t) (b n : �
   -- "REGENERATE adds the target's own blocks and retains the XOR."
   module _ (sources flags int : ℕ) where
     abbrev sum : List ℕ
-    sum = part m (place g t b) (n * g .l) ⊻ gathered m g s n sources int
+    sum = blocksAt m g t b n ⊻ gathered m g s n sources int
 
     pub regenerate-retains : ListByte flags int → Headed s sources b → sources < 256 → Sourced m g x sources int s
         → Retains m g a (regenerateCdb flags n sources) s r (λ i. stored m (slotStores m g i 2 x sum)) (resultIn 2 x sum)

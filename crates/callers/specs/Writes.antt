@@ -8,11 +8,10 @@ use lib.Bits.{bitAnd}
 use lib.Dec.{eqb}
 use lib.ListN.{length}
 use borrow.Author.Tests.{le-ltb, eq-eqb, ne-eqb}
-use Rattle.octets.specs.Part.{part}
 use Rattle.octets.specs.Put.{put}
 use Rattle.octets.specs.Xor.{_⊻_}
 use Rattle.geometry.specs.declared.Geometry.{Geometry}
-use Rattle.geometry.specs.Header.{place}
+use Rattle.geometry.specs.Header.{place, blocksAt}
 use Rattle.geometry.specs.Frame.{Framed}
 use Rattle.image.specs.Shelf.{shelf-frame}
 use Rattle.command.specs.declared.Op.the-variants.{XpWrite, Write}
@@ -46,7 +45,7 @@ module _ (m : List ℕ) (g : Geometry) (a t : ℕ) (h : Target m g a t) (b n : �
       refl refl
 
   -- XPWRITE: the data are XORed into the blocks
-  pub xpwrite-does : Limited g (blocks t b n) → Does m a (xpwriteCdb flags b n) s r 0 (put m (place g t b) (part m (place g t b) (n * g .l) ⊻ s)) r
+  pub xpwrite-does : Limited g (blocks t b n) → Does m a (xpwriteCdb flags b n) s r 0 (put m (place g t b) (blocksAt m g t b n ⊻ s)) r
   xpwrite-does most =
       does-quietly m g a t h (xpwriteCdb flags b n) s r XpWrite (tenSaying XpWrite flags b n) (ToXpWrite (blocks t b n))
       (ten-says XpWrite flags b n tt low (omega (arith, most, f .placed .ranges .m-high)))

@@ -9,14 +9,13 @@ use lib.Bits.{bitAnd}
 use lib.Dec.{eqb}
 use lib.ListN.{length}
 use borrow.Author.Tests.{le-ltb, eq-eqb, ne-eqb}
-use Rattle.octets.specs.Part.{part}
 use Rattle.octets.specs.Put.{put}
 use Rattle.octets.specs.Xor.{_⊻_}
 use Rattle.rules.specs.declared.Found.{Found}
 use Rattle.rules.specs.declared.Found.the-variants.{At}
 use Rattle.rules.specs.Least.{index}
 use Rattle.geometry.specs.declared.Geometry.{Geometry}
-use Rattle.geometry.specs.Header.{place}
+use Rattle.geometry.specs.Header.{place, blocksAt}
 use Rattle.geometry.specs.Frame.{Framed}
 use Rattle.drives.specs.Table.{driveOf, failed}
 use Rattle.slots.specs.Find.{emptySlot}
@@ -97,7 +96,7 @@ module _ (m : List ℕ) (g : Geometry) (a t : ℕ) (h : Target m g a t) (b n : �
   pub coupled-xors : (flags sec : ℕ) → XdwriteByte flags 0 0 sec → Together sec → (a′ u c : ℕ) → driveOf m g a′ ≡ At u → a′ < 16777216
       → Blocks m g (blocks u c n) → (t ≡ u → ⊥)
       → Does m a (xdwriteCdb flags b n a′ c) s r 0
-      (put (put m (place g t b) s) (place g u c) (part m (place g u c) (n * g .l) ⊻ (s ⊻ part m (place g t b) (n * g .l)))) r
+      (put (put m (place g t b) s) (place g u c) (blocksAt m g u c n ⊻ (s ⊻ blocksAt m g t b n))) r
   coupled-xors flags sec z both a′ u c found small v other = coupled-does flags 0 sec z both a′ u c found small v other
 
   -- ---- "Sec Ctl 11: the result is retained", in slot i; the secondary's address a′ and block c are not looked at
@@ -132,5 +131,5 @@ module _ (m : List ℕ) (g : Geometry) (a t : ℕ) (h : Target m g a t) (b n : �
   -- without Mirror and NDisc
   pub retained-xors : (flags : ℕ) → XdwriteByte flags 0 0 3 → (a′ c : ℕ) → a′ < 16777216 → c < 4294967296 → (i : ℕ) → Free m g i
       → Does m a (xdwriteCdb flags b n a′ c) s r 0
-      (stored (put m (place g t b) s) (slotStores m g i 1 (blocks t b n) (s ⊻ part m (place g t b) (n * g .l)))) r
+      (stored (put m (place g t b) s) (slotStores m g i 1 (blocks t b n) (s ⊻ blocksAt m g t b n))) r
   retained-xors flags z a′ c la lc i v = retained-does flags 0 0 z a′ c la lc i v

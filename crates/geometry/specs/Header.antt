@@ -4,6 +4,7 @@ use mathlib.Core.List.{List, [], _∷_}
 use mathlib.Core.Bool.{Bool}
 use lib.ListN.{length}
 use lib.Dec.{leb, eqb}
+use Rattle.octets.specs.Part.{part}
 use Rattle.octets.specs.Number.{be}
 use Rattle.rules.specs.Every.{every}
 use Rattle.geometry.specs.declared.Geometry.{Geometry}
@@ -83,3 +84,7 @@ dataAt g i = slotAt g i + 16
 -- drive d's block b: "drive 0's blocks, then drive 1's, and so on"
 unfoldable pub place : Geometry → ℕ → ℕ → ℕ
 place g d b = g .media + (d * g .b + b) * g .l
+
+-- the bytes of drive d's n blocks from block b on
+abbrev pub blocksAt : List ℕ → Geometry → ℕ → ℕ → ℕ → List ℕ
+blocksAt s g d b n = part s (place g d b) (n * g .l)

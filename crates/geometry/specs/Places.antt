@@ -6,10 +6,10 @@ use Prim.Native.Nat.{ℕ, suc, _+_, _*_, _≤_, _<_}
 use native.Mathlib.Nat.{mul-le-mul-right, one-mul, suc-mul, add-mul}
 use native.Mathlib.Omega.{arith}
 use lib.ListN.{length}
-use Rattle.octets.specs.Part.{part, length-part, Apart}
+use Rattle.octets.specs.Part.{length-part, Apart}
 use Rattle.rules.specs.Cases.{apart}
 use Rattle.geometry.specs.declared.Geometry.{Geometry}
-use Rattle.geometry.specs.Header.{slotSize, tableEnd, endOf, slotAt, dataAt, place}
+use Rattle.geometry.specs.Header.{slotSize, tableEnd, endOf, slotAt, dataAt, place, blocksAt}
 use Rattle.geometry.specs.Frame.{InRange, Placed, Framed, slots-small, media-small, blocks-small}
 
 -- ---- slots
@@ -107,7 +107,7 @@ module _ (g : Geometry) where
 pub range-room : (s : List ℕ) (g : Geometry) (d b n : ℕ) → Framed s g → Range g d b n → place g d b + n * g .l ≤ length s
 range-room s g d b n f h = omega (arith, place-ends g d b n h, f .length-is)
 
-pub range-long : (s : List ℕ) (g : Geometry) (d b n : ℕ) → Framed s g → Range g d b n → length (part s (place g d b) (n * g .l)) ≡ n * g .l
+pub range-long : (s : List ℕ) (g : Geometry) (d b n : ℕ) → Framed s g → Range g d b n → length (blocksAt s g d b n) ≡ n * g .l
 range-long s g d b n f h = length-part s (place g d b) (n * g .l) (range-room s g d b n f h)
 
 -- one block

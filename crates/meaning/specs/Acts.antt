@@ -10,7 +10,7 @@ use Rattle.octets.specs.Xor.{_⊻_}
 use Rattle.octets.specs.Operands.{xorAll}
 use Rattle.rules.specs.Least.{index}
 use Rattle.geometry.specs.declared.Geometry.{Geometry}
-use Rattle.geometry.specs.Header.{slotAt, dataAt, place}
+use Rattle.geometry.specs.Header.{slotAt, dataAt, place, blocksAt}
 use Rattle.drives.specs.Table.{driveOf}
 use Rattle.slots.specs.Record.{bytesOf}
 use Rattle.slots.specs.Slots.{usedCount}
@@ -43,7 +43,7 @@ spanAt g x = place g (x .drive) (x .block .0)
 
 -- the bytes of a span
 abbrev pub blocksOf : List ℕ → Geometry → Span → List ℕ
-blocksOf s g x = part s (spanAt g x) (x .count * g .l)
+blocksOf s g x = blocksAt s g (x .drive) (x .block .0) (x .count)
 
 -- ---- XDWRITE
 
@@ -84,7 +84,7 @@ abbrev pub startOf : List ℕ → Geometry → Source → ℕ
 startOf s g x = place g (homeOf s g x) (x .block .0)
 
 abbrev pub namedBlocks : List ℕ → Geometry → ℕ → Source → List ℕ
-namedBlocks s g count x = part s (startOf s g x) (count * g .l)
+namedBlocks s g count x = blocksAt s g (homeOf s g x) (x .block .0) count
 
 -- the blocks that source entry i names
 abbrev pub sourceBlocks : List ℕ → Geometry → List ℕ → ℕ → ℕ → List ℕ

@@ -1,4 +1,4 @@
--- The bench shelf of 01: a run that pays what it owes, a reset that leaves a row open for good, and a REBUILD. Assumes nothing.
+-- The bench shelf of 01: a run that pays what it owes, a reset that leaves a row open for good, and a REBUILD after each. Assumes nothing.
 use Prim.Native.Nat.{ℕ, zero, suc}
 use native.Mathlib.Omega.{arith}
 use mathlib.Core.Bool.{true, false≢true}

@@ -15,7 +15,7 @@ use Rattle.rules.specs.declared.Found.the-variants.{At}
 use Rattle.rules.specs.Each.{EachIs, each-mem, each-map, perm-length, perm-each}
 use Rattle.rules.specs.Least.{index}
 use Rattle.geometry.specs.declared.Geometry.{Geometry}
-use Rattle.geometry.specs.Header.{place}
+use Rattle.geometry.specs.Header.{place, blocksAt}
 use Rattle.geometry.specs.Frame.{Framed}
 use Rattle.geometry.specs.Places.{Range, place-after-media}
 use Rattle.geometry.specs.Written.{other-drive}
@@ -27,7 +27,7 @@ use Rattle.results.specs.Lists.{map-same}
 use Rattle.image.specs.Shelf.{Shelf, shelf-frame}
 use Rattle.image.specs.Keeps.{shelf-written}
 use Rattle.sums.specs.Others.{Other, others-each, length-others}
-use Rattle.sums.specs.OldBytes.{ZeroSums, rowsOf, old-bytes, length-rows}
+use Rattle.sums.specs.OldBytes.{ZeroSums, old-bytes, length-rows}
 use Rattle.sense.specs.declared.Outcome.{Outcome}
 use Rattle.command.specs.declared.Source.{Source}
 use Rattle.meaning.specs.Acts.{namedBlocks}
@@ -87,28 +87,28 @@ module _ (m : List ℕ) (g : Geometry) (h : Shelf m g) (up : AllPresent m g) (sm
       }
 
   -- the other drives' blocks are as before
-  same-rows : (e : ℕ) → Other (g .d) d e → rowsOf t g b n e ≡ rowsOf m g b n e
+  same-rows : (e : ℕ) → Other (g .d) d e → blocksAt t g e b n ≡ blocksAt m g e b n
   same-rows e o = other-drive m g d e b b n n (n * g .l) ys (o .1) (w .rows-in) (w .rows-in) (omega (arith, w .as-long)) (omega arith)
 
   abbrev sources : List Source
   sources = map (sourceAt m g b) es
 
-  named-rows : (e : ℕ) → Other (g .d) d e → namedBlocks t g n (sourceAt m g b e) ≡ rowsOf m g b n e
-  named-rows e o = ap (λ (x : Found). rowsOf t g b n (index x)) (found e (o .0)) ∙ same-rows e o
+  named-rows : (e : ℕ) → Other (g .d) d e → namedBlocks t g n (sourceAt m g b e) ≡ blocksAt m g e b n
+  named-rows e o = ap (λ (x : Found). blocksAt t g (index x) b n) (found e (o .0)) ∙ same-rows e o
 
   -- what is gathered are the old bytes
-  gathers : ZeroSums m g b n → xorAll (operands t g n sources 0 []) ≡ rowsOf m g b n d
+  gathers : ZeroSums m g b n → xorAll (operands t g n sources 0 []) ≡ blocksAt m g d b n
   gathers zeros =
       ap xorAll (append-nil (map (namedBlocks t g n) sources)
       ∙ map-map (namedBlocks t g n) (sourceAt m g b) es
-      ∙ map-same (λ (e : ℕ). namedBlocks t g n (sourceAt m g b e)) (rowsOf m g b n) es (λ e k. named-rows e (each-mem (Other (g .d) d) es each e k)))
+      ∙ map-same (λ (e : ℕ). namedBlocks t g n (sourceAt m g b e)) (λ (e : ℕ). blocksAt m g e b n) es (λ e k. named-rows e (each-mem (Other (g .d) d) es each e k)))
       ∙ old-bytes m g f b n d range es (w .every-other) zeros
 
   -- and so it writes them
   writes : ZeroSums m g b n → put t at (xorAll (operands t g n sources 0 [])) ≡ m
   writes zeros =
       ap (put t at) (gathers zeros)
-      ∙ put-put m at ys (rowsOf m g b n d) (omega (arith, w .as-long, length-rows m g f b n d range d (w .drive-in)))
+      ∙ put-put m at ys (blocksAt m g d b n) (omega (arith, w .as-long, length-rows m g f b n d range d (w .drive-in)))
       ∙ put-part m at (n * g .l)
 
   does : (room : List ℕ)

@@ -13,7 +13,7 @@ use Rattle.octets.specs.Pieces.{block-inside}
 use Rattle.octets.specs.Xor.{_⊻_, length-xor-le, xor-nil, xor-commutes, xor-regroups, xor-swaps, xor-cancels, part-xor}
 use Rattle.rules.specs.Cases.{order, last-or-below}
 use Rattle.geometry.specs.declared.Geometry.{Geometry}
-use Rattle.geometry.specs.Header.{place}
+use Rattle.geometry.specs.Header.{place, blocksAt}
 use Rattle.geometry.specs.Frame.{Framed}
 use Rattle.geometry.specs.Places.{Range, place-on, block-before, block-upto, range-room, range-long}
 use Rattle.geometry.specs.Written.{other-drive}
@@ -59,7 +59,7 @@ module _ (s : List ℕ) (g : Geometry) (f : Framed s g) (d b n : ℕ) (w : Range
   at = place g d b
 
   abbrev old : List ℕ
-  old = part s at (n * g .l)
+  old = blocksAt s g d b n
 
   room : at + n * g .l ≤ length s
   room = range-room s g d b n f w

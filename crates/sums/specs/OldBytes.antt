@@ -9,7 +9,7 @@ use Rattle.octets.specs.Pieces.{block-inside, blocks-ext}
 use Rattle.octets.specs.Operands.{xorAll, Long, length-xorAll, partsOf, part-xorAll}
 use Rattle.rules.specs.Each.{EachIs, each-map, perm-length, perm-each}
 use Rattle.geometry.specs.declared.Geometry.{Geometry}
-use Rattle.geometry.specs.Header.{place}
+use Rattle.geometry.specs.Header.{place, blocksAt}
 use Rattle.geometry.specs.Frame.{Framed}
 use Rattle.geometry.specs.Places.{Range, place-on, range-long}
 use Rattle.sums.specs.Row.{blockIn, rowSum}
@@ -20,13 +20,10 @@ use Rattle.sums.specs.Others.{others, Other, others-each, length-others,
 abbrev pub ZeroSums : List ℕ → Geometry → ℕ → ℕ → Type 0
 ZeroSums m g b n = (r : ℕ) → b ≤ r → r < b + n → rowSum m g r ≡ replicate (g .l) 0
 
--- drive e's blocks of the n rows from row b on
-abbrev pub rowsOf : List ℕ → Geometry → ℕ → ℕ → ℕ → List ℕ
-rowsOf m g b n e = part m (place g e b) (n * g .l)
-
 module _ (m : List ℕ) (g : Geometry) (f : Framed m g) (b n : ℕ) where
+  -- drive e's blocks of these rows
   abbrev rows : ℕ → List ℕ
-  rows e = rowsOf m g b n e
+  rows e = blocksAt m g e b n
 
   row-of : (k : ℕ) → k < n → (e : ℕ) → part (rows e) (k * g .l) (g .l) ≡ blockIn m g (b + k) e
   row-of k l e =
