@@ -13,7 +13,8 @@
  * A buffer is a pointer, at any alignment, and the count of its bytes. What a call cannot see is up to the caller:
  *
  * - the bytes that a length tells of are there; a pointer may be NULL only where its length is 0, and `count` never is,
- * - no two buffers of a call overlap, `count` included; calls that share no buffer may run at the same time.
+ * - no two buffers of a call overlap, `count` included; the data and the room of an XDWRITEREAD are two buffers. Calls that share no
+ *   buffer may run at the same time.
  */
 #ifndef SHELF_H
 #define SHELF_H
@@ -49,14 +50,14 @@ extern "C" {
  *   target   a drive's address has three bytes, so a target above FFFFFFh is no such target
  *   cdb      the command, see below
  *   data     the data-out bytes, exactly as many as the command sends
- *   room     the receive room: takes the bytes of a READ or XDREAD, from its front on, and may be longer
+ *   room     the receive room: takes the bytes of a READ, XDREAD or XDWRITEREAD, from its front on, and may be longer
  *   sense    the sense room: 37 bytes or more
  *   count    takes the number of bytes put into `room`
  *
  * Where sense_len is below 37 the answer is SHELF_SHORT_ROOM before all other checks, and nothing is written, not even `count`.
  * Every other call writes `count` and the first 37 bytes of the sense room:
  *
- * - `count` is the byte count of a GOOD READ or XDREAD, and else 0. The bytes of `room` past it stay.
+ * - `count` is the byte count of a GOOD READ, XDREAD (C2h, 52h) or XDWRITEREAD (53h), and else 0. The bytes of `room` past it stay.
  * - The sense stands at the front of its 37 bytes, and zeros after it. Its length is 0 if byte 0 is 0, else byte 7 + 8. Only
  *   SHELF_CHECK_CONDITION comes with one:
  *
@@ -66,22 +67,36 @@ extern "C" {
  *     37 bytes   The secondary or a source refuses. The key is 0Bh, byte 9 is 12h, byte 18 that drive's status, and from byte 19 on
  *                there is its sense of 18 bytes.
  *
- * The commands. Numbers are big-endian, lengths count blocks, list lengths bytes; what is not named is zero, the last byte too.
+ * The commands, those of 1994 and the published ones. Both sets share the slots: XDREAD of either hands out what either retained.
  *
- *   C0h  XDWRITE      16 bytes: block 2-5, length 6-7, secondary address 8-10, secondary block 11-14; sends its blocks
- *   C1h  XPWRITE      10 bytes: block 2-5, length 7-8; sends its blocks
- *   C2h  XDREAD       10 bytes: block 2-5, length 7-8
- *   C3h  REBUILD      10 bytes: length 2-5, list length 7-8; sends the list and, with Int Data, its blocks
- *   C4h  REGENERATE   as REBUILD
- *   28h  READ(10)     as XDREAD
- *   2Ah  WRITE(10)    as XPWRITE
+ *   1994              published              what it does
+ *   C0h  XDWRITE      50h  XDWRITE(10)       writes its blocks; data XOR old blocks are retained, or sent to the secondary (C0h)
+ *   C1h  XPWRITE      51h  XPWRITE(10)       XORs its blocks into the medium
+ *   C2h  XDREAD       52h  XDREAD(10)        hands out the drive's newest result at the block, which is then no longer retained
+ *                     53h  XDWRITEREAD(10)   writes its blocks; data XOR old blocks go to the receive room, and it takes no slot
+ *   C3h  REBUILD                             writes the XOR of the sources
+ *   C4h  REGENERATE                          retains the XOR of the sources and the drive's own blocks
+ *   28h  READ(10)     28h  READ(10)          hands out blocks
+ *   2Ah  WRITE(10)    2Ah  WRITE(10)         writes its blocks
  *
- *   byte 1            XDWRITE: Mirror 40h, NDisc 20h, DPO 10h, FUA 08h, Sec Ctl in bits 2-1. REBUILD and REGENERATE: Int Data 04h,
- *                     Sec Ctl in bits 1-0. XPWRITE, READ and WRITE: DPO 10h, FUA 08h. DPO and FUA are ignored.
- *   Sec Ctl           00 or 10; 11 retains the result of an XDWRITE for a later XDREAD
+ * Their bytes. Numbers are big-endian, lengths count blocks, list lengths bytes; what is not named is zero, the last byte too.
+ *
+ *   C0h               16 bytes: block 2-5, length 6-7, secondary address 8-10, secondary block 11-14
+ *   C3h, C4h          10 bytes: length 2-5, list length 7-8
+ *   all others        10 bytes: block 2-5, length 7-8
+ *   sent              its blocks by C0h, C1h, 2Ah, 50h, 51h and 53h; the list and, with Int Data, the blocks by C3h and C4h
+ *   byte 1            C0h             Mirror 40h, NDisc 20h, DPO 10h, FUA 08h, Sec Ctl in bits 2-1
+ *                     50h, 53h        DPO 10h, FUA 08h, DISABLE WRITE 04h
+ *                     C1h, 51h        DPO 10h, FUA 08h; so too 28h and 2Ah
+ *                     C2h, 52h        none
+ *                     C3h, C4h        Int Data 04h, Sec Ctl in bits 1-0
+ *                     DPO and FUA are ignored. With Mirror the data itself takes the place of data XOR old blocks. NDisc, which
+ *                     wants Sec Ctl 11, and DISABLE WRITE leave the medium as it is.
+ *   Sec Ctl           00 or 10; 11 retains the result of C0h for a later XDREAD. 50h has none and always retains.
  *   list              number of sources, 01h, two zeros, own block (4 bytes); then for each source its address and block (4 each)
- *   length            FFFFFFFFh in a REBUILD goes to the last block. With a length of 0, but in an XDREAD, and with a list length of
- *                     0 nothing is moved; the latter sends nothing either.
+ *   length            at most the blocks of a slot in C0h, C1h, C4h, 50h, 51h and 53h. FFFFFFFFh in a REBUILD goes to the last
+ *                     block. With a length of 0, but in an XDREAD of either set, and with a list length of 0 nothing is moved; the
+ *                     latter sends nothing either.
  *
  * Stack, as measured on x86-64: REBUILD and REGENERATE 4,100 bytes with one source and 16,600 with 255, the most; every other call
  * less than 1,700.

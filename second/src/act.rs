@@ -24,7 +24,7 @@ pub enum Act {
     Read(Extent),
     /// WRITE.
     Write(Extent),
-    /// XPWRITE.
+    /// XPWRITE of either set.
     XorWrite(Extent),
     /// XDWRITE to a secondary.
     Send {
@@ -32,15 +32,18 @@ pub enum Act {
         to: Extent,
         mirror: bool,
     },
-    /// XDWRITE with Sec Ctl 11; `write` is NDisc 0.
+    /// XDWRITE with Sec Ctl 11, `write` being NDisc 0; or XDWRITE(10), `write`
+    /// being DISABLE WRITE 0.
     Retain {
         at: Extent,
         slot: usize,
         mirror: bool,
         write: bool,
     },
-    /// XDREAD.
+    /// XDREAD of either set.
     Fetch { slot: usize },
+    /// XDWRITEREAD(10); `write` is DISABLE WRITE 0.
+    HandOver { at: Extent, write: bool },
     /// REBUILD.
     Rebuild {
         at: Extent,
@@ -77,13 +80,14 @@ pub fn perform(
             mirror,
             write,
         } => {
-            let result = xdwrite_result(&geometry, image, at, data, *mirror);
-            if *write {
-                image[geometry.blocks_of(at)].copy_from_slice(data);
-            }
+            let result = xdwrite(&geometry, image, at, data, *mirror, *write);
             retain(&mut shelf, image, *slot, XDWRITE, at, &result);
         }
         Act::Fetch { slot } => return fetch(&mut shelf, image, *slot, room),
+        Act::HandOver { at, write } => {
+            let result = xdwrite(&geometry, image, at, data, false, *write);
+            return deliver(&result, room);
+        }
         Act::Rebuild { at, operands, .. } => {
             let result = xor_of(&geometry, image, operands, at.length);
             image[geometry.blocks_of(at)].copy_from_slice(&result);
@@ -103,7 +107,7 @@ fn deliver(bytes: &[u8], room: &mut [u8]) -> usize {
     bytes.len()
 }
 
-/// XDWRITE with a secondary: the result is taken before the data is written.
+/// XDWRITE with a secondary.
 fn send(
     geometry: &Geometry,
     image: &mut [u8],
@@ -112,8 +116,7 @@ fn send(
     to: &Extent,
     mirror: bool,
 ) {
-    let result = xdwrite_result(geometry, image, at, data, mirror);
-    image[geometry.blocks_of(at)].copy_from_slice(data);
+    let result = xdwrite(geometry, image, at, data, mirror, true);
     let secondary = &mut image[geometry.blocks_of(to)];
     if mirror {
         secondary.copy_from_slice(&result);
@@ -122,17 +125,23 @@ fn send(
     }
 }
 
-/// "result = data XOR old blocks, or the data itself with Mirror".
-fn xdwrite_result(
+/// "result = data XOR old blocks, or the data itself with Mirror"; it is taken
+/// before the data is written, if it is.
+fn xdwrite(
     geometry: &Geometry,
-    image: &[u8],
+    image: &mut [u8],
     at: &Extent,
     data: &[u8],
     mirror: bool,
+    write: bool,
 ) -> Vec<u8> {
+    let blocks = &mut image[geometry.blocks_of(at)];
     let mut result = data.to_vec();
     if !mirror {
-        xor_into(&mut result, &image[geometry.blocks_of(at)]);
+        xor_into(&mut result, blocks);
+    }
+    if write {
+        blocks.copy_from_slice(data);
     }
     result
 }
@@ -186,6 +195,8 @@ impl Act {
             Act::Retain { mirror, write, .. } => retained_kind(*mirror, *write),
             Act::Fetch { slot } if shelf.records[*slot].kind == XDWRITE => Good::FetchedXdWrite,
             Act::Fetch { .. } => Good::FetchedRegenerate,
+            Act::HandOver { write: true, .. } => Good::XorHanded,
+            Act::HandOver { write: false, .. } => Good::XorHandedOnly,
             Act::Rebuild {
                 to_the_end: true, ..
             } => Good::RebuiltToTheEnd,

@@ -20,8 +20,7 @@ impl Step<'_> {
         self.zero_bits()?;
         self.sec_ctl()?;
         let command = &self.command;
-        let limited = matches!(command.op, Op::XdWrite | Op::XpWrite | Op::Regenerate);
-        if limited && command.length > self.shelf.geometry.slot_blocks {
+        if command.op.limited() && command.length > self.shelf.geometry.slot_blocks {
             return Err(Refusal::LengthAboveSlot);
         }
         if self.to_the_end() && command.int_data() {
@@ -70,11 +69,11 @@ impl Step<'_> {
         let command = &self.command;
         let blocks = self.shelf.geometry.bytes(command.length);
         let due = match command.op {
-            Op::XdWrite | Op::XpWrite | Op::Write => blocks,
+            op if op.sends_blocks() => blocks,
             Op::Rebuild | Op::Regenerate if command.list_length == 0 => 0,
             Op::Rebuild | Op::Regenerate if command.int_data() => command.list_length + blocks,
             Op::Rebuild | Op::Regenerate => command.list_length,
-            Op::Read | Op::XdRead => 0,
+            _ => 0,
         };
         if self.data.len() as u64 != due {
             return Err(Refusal::DataCount);
@@ -82,12 +81,12 @@ impl Step<'_> {
         Ok(())
     }
 
-    /// Check 6.
+    /// Check 6; "52h follows XDREAD", which no zero length excuses.
     pub fn nothing_asked(&self) -> Option<Good> {
         let command = &self.command;
         match command.op {
             Op::Rebuild | Op::Regenerate => (command.list_length == 0).then_some(Good::NoList),
-            Op::XdRead => None,
+            Op::XdRead | Op::XdRead10 => None,
             _ => (command.length == 0).then_some(Good::ZeroLength),
         }
     }

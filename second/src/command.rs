@@ -16,8 +16,10 @@ pub const MIRROR: u8 = 0x40;
 pub const NDISC: u8 = 0x20;
 /// REBUILD and REGENERATE byte 1, bit 2.
 pub const INT_DATA: u8 = 0x04;
+/// XDWRITE(10) and XDWRITEREAD(10) byte 1, bit 2.
+pub const DISABLE_WRITE: u8 = 0x04;
 
-/// The seven commands.
+/// The seven commands of 01, and the four of A1.
 #[derive(Clone, Copy, PartialEq, Eq, Debug)]
 pub enum Op {
     XdWrite,
@@ -27,10 +29,14 @@ pub enum Op {
     Regenerate,
     Read,
     Write,
+    XdWrite10,
+    XpWrite10,
+    XdRead10,
+    XdWriteRead10,
 }
 
 impl Op {
-    pub const ALL: [Op; 7] = [
+    pub const ALL: [Op; 11] = [
         Op::XdWrite,
         Op::XpWrite,
         Op::XdRead,
@@ -38,6 +44,10 @@ impl Op {
         Op::Regenerate,
         Op::Read,
         Op::Write,
+        Op::XdWrite10,
+        Op::XpWrite10,
+        Op::XdRead10,
+        Op::XdWriteRead10,
     ];
 
     /// The operation code of the command.
@@ -50,6 +60,10 @@ impl Op {
             Op::Regenerate => 0xC4,
             Op::Read => 0x28,
             Op::Write => 0x2A,
+            Op::XdWrite10 => 0x50,
+            Op::XpWrite10 => 0x51,
+            Op::XdRead10 => 0x52,
+            Op::XdWriteRead10 => 0x53,
         }
     }
 
@@ -74,7 +88,39 @@ impl Op {
             Op::Rebuild | Op::Regenerate => 0b0000_0111,
             Op::XpWrite | Op::Read | Op::Write => 0b0001_1000,
             Op::XdRead => 0,
+            // A1: "bit 4 DPO and 3 FUA (not 52h), 2 DISABLE WRITE (50h, 53h)".
+            Op::XdWrite10 | Op::XdWriteRead10 => 0b0001_1100,
+            Op::XpWrite10 => 0b0001_1000,
+            Op::XdRead10 => 0,
         }
+    }
+
+    /// Whether M, the size of a slot, limits its length: A1 says so of 53h
+    /// though it "takes no slot".
+    pub fn limited(self) -> bool {
+        match self {
+            Op::XdWrite | Op::XpWrite | Op::Regenerate => true,
+            Op::XdWrite10 | Op::XpWrite10 | Op::XdWriteRead10 => true,
+            Op::XdRead | Op::XdRead10 | Op::Rebuild | Op::Read | Op::Write => false,
+        }
+    }
+
+    /// Whether its data-out bytes are its blocks, "length*L".
+    pub fn sends_blocks(self) -> bool {
+        match self {
+            Op::XdWrite | Op::XpWrite | Op::Write => true,
+            Op::XdWrite10 | Op::XpWrite10 | Op::XdWriteRead10 => true,
+            Op::XdRead | Op::XdRead10 | Op::Read => false,
+            Op::Rebuild | Op::Regenerate => false,
+        }
+    }
+
+    /// Whether it hands its blocks to the receive room.
+    pub fn fills_room(self) -> bool {
+        matches!(
+            self,
+            Op::Read | Op::XdRead | Op::XdRead10 | Op::XdWriteRead10
+        )
     }
 
     /// Whether a list comes with the command.
@@ -137,6 +183,11 @@ impl Command {
     /// NDisc, of an XDWRITE.
     pub fn ndisc(&self) -> bool {
         self.op == Op::XdWrite && self.byte1 & NDISC != 0
+    }
+
+    /// DISABLE WRITE, of an XDWRITE(10) or XDWRITEREAD(10).
+    pub fn disable_write(&self) -> bool {
+        matches!(self.op, Op::XdWrite10 | Op::XdWriteRead10) && self.byte1 & DISABLE_WRITE != 0
     }
 
     /// Int Data, of a REBUILD or REGENERATE.

@@ -73,9 +73,13 @@ impl Step<'_> {
         match self.command.op {
             Op::Read => self.read(),
             Op::Write => Ok(Act::Write(self.in_range(self.command.block)?)), // 8
-            Op::XpWrite => Ok(Act::XorWrite(self.in_range(self.command.block)?)), // 8
+            Op::XpWrite | Op::XpWrite10 => {
+                Ok(Act::XorWrite(self.in_range(self.command.block)?)) // 8
+            }
             Op::XdWrite => self.xdwrite(),
-            Op::XdRead => self.xdread(),
+            Op::XdWrite10 => self.xdwrite10(),
+            Op::XdRead | Op::XdRead10 => self.xdread(),
+            Op::XdWriteRead10 => self.xdwriteread10(),
             Op::Rebuild => self.rebuild(),
             Op::Regenerate => self.regenerate(),
         }
@@ -102,6 +106,26 @@ impl Step<'_> {
         }
         let to = self.secondary()?; // 10
         Ok(Act::Send { at, to, mirror })
+    }
+
+    /// "50h always retains."
+    fn xdwrite10(&self) -> Result<Act, Refusal> {
+        let at = self.in_range(self.command.block)?; // 8
+        let slot = self.empty_slot()?; // 9
+        Ok(Act::Retain {
+            at,
+            slot,
+            mirror: false,
+            write: !self.command.disable_write(),
+        })
+    }
+
+    /// 53h "takes no slot", so there is no check 9.
+    fn xdwriteread10(&self) -> Result<Act, Refusal> {
+        let at = self.in_range(self.command.block)?; // 8
+        self.room_for(at.length)?; // 11
+        let write = !self.command.disable_write();
+        Ok(Act::HandOver { at, write })
     }
 
     fn xdread(&self) -> Result<Act, Refusal> {

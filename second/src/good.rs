@@ -15,24 +15,29 @@ listed! {
         Read,
         /// WRITE.
         Write,
-        /// XPWRITE.
+        /// XPWRITE of either set.
         XorWrite,
         /// XDWRITE, the XOR sent to the secondary.
         XorSent,
         /// XDWRITE with Mirror, the data sent to the secondary.
         MirrorSent,
-        /// XDWRITE, the data written and the XOR retained.
+        /// XDWRITE of either set, the data written and the XOR retained.
         XorRetained,
         /// XDWRITE with Mirror, the data written and retained.
         MirrorRetained,
-        /// XDWRITE with NDisc, the XOR retained.
+        /// XDWRITE with NDisc or XDWRITE(10) with DISABLE WRITE, the XOR
+        /// retained.
         XorRetainedOnly,
         /// XDWRITE with Mirror and NDisc, the data retained.
         MirrorRetainedOnly,
-        /// XDREAD of what an XDWRITE retained.
+        /// XDREAD of either set, of what an XDWRITE of either set retained.
         FetchedXdWrite,
-        /// XDREAD of what a REGENERATE retained.
+        /// XDREAD of either set, of what a REGENERATE retained.
         FetchedRegenerate,
+        /// XDWRITEREAD(10), the data written and the XOR handed over.
+        XorHanded,
+        /// XDWRITEREAD(10) with DISABLE WRITE, the XOR handed over.
+        XorHandedOnly,
         /// REBUILD.
         Rebuilt,
         /// REBUILD with Int Data.

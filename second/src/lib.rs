@@ -1,5 +1,6 @@
 //! The second program: the rules of the XOR shelf, called 01 in the comments,
-//! carried out in plain Rust.
+//! with the published codes that A1 puts beside those of 1994, carried out in
+//! plain Rust.
 //!
 //! The proved library is checked against this one: both get the same call on
 //! the same image and must leave the same bytes. So this one shares no code
@@ -13,7 +14,8 @@
 //! [`step`], [`reset`] and [`mark`] behave as the calls of the C interface do:
 //! a status comes back as itself and call number n as 256 + n. [`listing`] and
 //! [`rows`] are the row program. [`Call::reached`] tells which refusal or which
-//! kind of GOOD decides a call, so that tests can count what they have seen.
+//! kind of GOOD decides a call, and [`Way`] by which command, so that tests can
+//! count what they have seen.
 //! [`random_case`] and [`next_call`] make calls from a seed.
 //!
 //! All numbers are taken as `u64`, since D*B*L reaches 2^33, and no bytes make
@@ -45,6 +47,7 @@ mod refusal;
 mod rows;
 mod sense;
 mod shelf;
+mod way;
 
 pub use calls::{mark, reset, step};
 pub use case::{Call, Case, Outcome, Reached, StepCall, StepOutcome};
@@ -57,3 +60,4 @@ pub use refusal::Refusal;
 pub use rows::{listing, rows, INPUT_LIMIT};
 pub use sense::SENSE_SIZE;
 pub use shelf::Shelf;
+pub use way::Way;

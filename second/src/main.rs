@@ -2,13 +2,16 @@
 //!
 //! - `second` or `second answer` reads calls on standard input, one a line, and
 //!   writes their answers on standard output,
-//! - `second cases SEED COUNT` writes so many random calls from the seed.
+//! - `second cases SEED COUNT` writes so many random calls from the seed,
+//! - `second pick COUNT LENGTH` reads calls and writes the first so many that are
+//!   decided in each way, but none whose line has more than LENGTH characters.
 
-use second::{answer_line, case_line, random_case, Random, BAD_LINE};
+use second::{answer_line, case_line, parse_line, random_case, Random, Way, BAD_LINE};
+use std::collections::BTreeMap;
 use std::io::{self, BufRead, BufWriter, Write};
 use std::process::ExitCode;
 
-const USAGE: &str = "usage: second [answer] | second cases SEED COUNT";
+const USAGE: &str = "usage: second [answer] | second cases SEED COUNT | second pick COUNT LENGTH";
 
 fn main() -> ExitCode {
     // An argument that is not text is one that is not known.
@@ -21,6 +24,10 @@ fn main() -> ExitCode {
         [] | ["answer"] => answer(),
         ["cases", seed, count] => match (seed.parse(), count.parse()) {
             (Ok(seed), Ok(count)) => cases(seed, count),
+            _ => return usage(),
+        },
+        ["pick", count, length] => match (count.parse(), length.parse()) {
+            (Ok(count), Ok(length)) => pick(count, length),
             _ => return usage(),
         },
         _ => return usage(),
@@ -55,6 +62,25 @@ fn cases(seed: u64, count: u64) -> io::Result<()> {
     let mut random = Random::new(seed);
     for _ in 0..count {
         writeln!(output, "{}", case_line(&random_case(&mut random)))?;
+    }
+    output.flush()
+}
+
+fn pick(count: u64, length: usize) -> io::Result<()> {
+    let mut output = BufWriter::new(io::stdout().lock());
+    let mut picked: BTreeMap<Way, u64> = BTreeMap::new();
+    for line in io::stdin().lock().lines() {
+        let line = line?;
+        let way = match parse_line(&line) {
+            Some(case) if line.len() <= length => Way::of(&case.call, &case.image),
+            _ => None,
+        };
+        let Some(way) = way else { continue };
+        let times = picked.entry(way).or_default();
+        *times += 1;
+        if *times <= count {
+            writeln!(output, "{line}")?;
+        }
     }
     output.flush()
 }

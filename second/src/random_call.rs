@@ -2,7 +2,7 @@
 
 use crate::address::{Address, Block};
 use crate::case::{Call, Case, StepCall};
-use crate::command::{Op, MIRROR, NDISC, RETAIN};
+use crate::command::{Op, DISABLE_WRITE, MIRROR, NDISC, RETAIN};
 use crate::draft::Draft;
 use crate::geometry::Geometry;
 use crate::random::Random;
@@ -114,24 +114,30 @@ impl Maker<'_> {
         let full = !self.shelf.records.is_empty() && self.shelf.empty_slot().is_none();
         if full && self.random.one_in(4) {
             // Else a shelf whose slots are all used would be BUSY too often.
-            return self.xdread();
+            let either = self.random.pick(&[Op::XdRead, Op::XdRead10]);
+            return self.xdread(either.unwrap_or(Op::XdRead));
         }
-        match self.random.below(16) {
+        match self.random.below(28) {
             0..=3 => self.xdwrite(),
-            4..=6 => self.xdread(),
+            4..=6 => self.xdread(Op::XdRead),
             7 | 8 => self.listed(Op::Rebuild),
             9..=11 => self.listed(Op::Regenerate),
             12 => self.plain(Op::Write),
             13 => self.plain(Op::Read),
-            _ => self.plain(Op::XpWrite),
+            14 | 15 => self.plain(Op::XpWrite),
+            16..=18 => self.may_disable(Op::XdWrite10),
+            19 | 20 => self.plain(Op::XpWrite10),
+            21..=23 => self.xdread(Op::XdRead10),
+            _ => self.may_disable(Op::XdWriteRead10),
         }
     }
 
-    /// XPWRITE, READ or WRITE.
+    /// XPWRITE of either set, READ or WRITE.
     fn plain(&mut self, op: Op) -> Draft {
-        let most = match op {
-            Op::XpWrite => self.shelf.geometry.slot_blocks,
-            _ => self.shelf.geometry.blocks,
+        let most = if op.limited() {
+            self.shelf.geometry.slot_blocks
+        } else {
+            self.shelf.geometry.blocks
         };
         let (block, length) = self.blocks(most);
         let target = self.present();
@@ -159,8 +165,17 @@ impl Maker<'_> {
         draft
     }
 
-    /// XDREAD, mostly of something that is retained.
-    fn xdread(&mut self) -> Draft {
+    /// XDWRITE(10) or XDWRITEREAD(10), every second one with DISABLE WRITE.
+    fn may_disable(&mut self, op: Op) -> Draft {
+        let mut draft = self.plain(op);
+        if self.random.one_in(2) {
+            draft.command.byte1 |= DISABLE_WRITE;
+        }
+        draft
+    }
+
+    /// XDREAD of either set, mostly of something that is retained.
+    fn xdread(&mut self, op: Op) -> Draft {
         let used: Vec<_> = self
             .shelf
             .records
@@ -171,10 +186,10 @@ impl Maker<'_> {
             Some(record) => {
                 let target = self.address(usize::from(record.drive));
                 let (block, length) = (u64::from(record.block), u64::from(record.length));
-                Draft::new(target, Op::XdRead, block, length)
+                Draft::new(target, op, block, length)
             }
             None => {
-                let mut draft = self.plain(Op::XdRead);
+                let mut draft = self.plain(op);
                 draft.command.byte1 = 0;
                 draft
             }
@@ -190,7 +205,7 @@ impl Maker<'_> {
             Vec::new()
         };
         let blocks = match command.op {
-            Op::XdWrite | Op::XpWrite | Op::Write => command.length,
+            op if op.sends_blocks() => command.length,
             _ if command.int_data() && command.list_length > 0 => command.length,
             _ => 0,
         };
@@ -209,11 +224,11 @@ impl Maker<'_> {
 
     /// A receive room that is exact, larger or, now and then, too short.
     fn room(&mut self, draft: &Draft) -> Vec<u8> {
-        let due = match draft.command.op {
-            Op::Read | Op::XdRead => self.shelf.geometry.bytes(draft.command.length),
-            _ => 0,
+        let blocks = match draft.command.op.fills_room() {
+            true => draft.command.length,
+            false => 0,
         };
-        let due = due.min(MOST_BYTES);
+        let due = self.shelf.geometry.bytes(blocks).min(MOST_BYTES);
         let length = match self.random.below(16) {
             0 => due.saturating_sub(1),
             1 => self.random.below(due),

@@ -36,7 +36,7 @@ listed! {
         NDiscWithoutRetain,
         /// Check 4: the secondary address is the target's.
         SecondaryIsTarget,
-        /// Check 4: an XDWRITE, XPWRITE or REGENERATE length above M.
+        /// Check 4: the length is above M, in a command that it limits.
         LengthAboveSlot,
         /// Check 4: REBUILD FFFFFFFFh with Int Data.
         ToTheEndWithIntData,
@@ -54,9 +54,9 @@ listed! {
         ListReserved,
         /// Check 7: a source that is the target.
         SourceIsTarget,
-        /// Check 8: XDREAD without a match.
+        /// Check 8: XDREAD of either set without a match.
         NoResult,
-        /// Check 8: XDREAD of a result that has another length.
+        /// Check 8: XDREAD of either set, and the result has another length.
         OtherLength,
         /// Check 8: block + length above B.
         OutOfRange,

@@ -6,7 +6,7 @@ use common::{Answer, Rig, FIELD};
 use second::{Good, Refusal};
 
 /// Each code with the bits of byte 1 that must be zero.
-const RESERVED: [(&str, u8); 7] = [
+const RESERVED: [(&str, u8); 11] = [
     ("C0", 0b1000_0001),
     ("C1", 0b1110_0111),
     ("C2", 0b1111_1111),
@@ -14,9 +14,13 @@ const RESERVED: [(&str, u8); 7] = [
     ("C4", 0b1111_1000),
     ("28", 0b1110_0111),
     ("2A", 0b1110_0111),
+    ("50", 0b1110_0011),
+    ("51", 0b1110_0111),
+    ("52", 0b1111_1111),
+    ("53", 0b1110_0011),
 ];
 
-/// A CDB of a code that is GOOD with zero length and no list, but for XDREAD.
+/// A CDB of a code that is GOOD with zero length and no list, but for C2h and 52h.
 fn cdb(code: &str, byte1: u8, byte6: u8, control: u8) -> String {
     if code == "C0" {
         return format!("C0 {byte1:02X} 00000000 0000 000003 00000000 {control:02X}");
@@ -59,13 +63,22 @@ fn every_bit_of_the_control_byte_is_refused() {
 #[test]
 fn dpo_and_fua_are_ignored() {
     for byte1 in [0x08, 0x10, 0x18] {
-        for code in ["C0", "C1", "28", "2A"] {
+        for code in ["C0", "C1", "28", "2A", "50", "51", "53"] {
             Rig::bench().good(1, &cdb(code, byte1, 0, 0), "", Good::ZeroLength);
         }
         let mut rig = Rig::bench();
         let write = format!("2A {byte1:02X} 00000000 00 0001 00");
         rig.good(1, &write, "FF00FF00", Good::Write);
         assert_eq!(rig, Rig::bench().with(68, "FF00FF00"));
+    }
+}
+
+#[test]
+fn disable_write_is_a_bit_of_50h_and_53h() {
+    for byte1 in [0x04, 0x0C, 0x14, 0x1C] {
+        for code in ["50", "53"] {
+            Rig::bench().good(1, &cdb(code, byte1, 0, 0), "", Good::ZeroLength);
+        }
     }
 }
 

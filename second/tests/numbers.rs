@@ -21,7 +21,10 @@ fn block_plus_length_may_pass_32_bits() {
     let (answer, why) = (Answer::Check(RANGE), Refusal::OutOfRange);
     rig.refused(1, "28 00 FFFFFFFF 00 0001 00", "", answer, why);
     rig.refused(1, "2A 00 FFFFFFFF 00 0001 00", "FF00FF00", answer, why);
-    rig.refused(1, "C1 00 FFFFFFFF 00 0001 00", "FF00FF00", answer, why);
+    for code in ["C1", "50", "51", "53"] {
+        let cdb = format!("{code} 00 FFFFFFFF 00 0001 00");
+        rig.refused(1, &cdb, "FF00FF00", answer, why);
+    }
     let cdb = "C0 00 FFFFFFFF 0001 000003 00000000 00";
     rig.refused(1, cdb, "FF00FF00", answer, why);
     let list = "01010000 FFFFFFFF 00000002 00000000";
@@ -97,7 +100,28 @@ fn byte_6_of_xdwrite_is_length() {
 }
 
 #[test]
-fn the_limit_of_a_slot_binds_three_commands() {
+fn byte_7_of_the_published_codes_is_length() {
+    let mut rig = Rig::shelf(2, 256, 64, 1, 256);
+    let data = "0123456789ABCDEF".repeat(2_048);
+    let cdb = "50 04 00000000 00 0100 00";
+    rig.good(1, cdb, &data, Good::XorRetainedOnly);
+    let record = "00000001 01 00 0100 00000000 00000000";
+    assert_eq!(rig.image[40..56], hex(record));
+    for (cdb, sent) in [
+        ("52 00 00000000 00 0100 00", ""),
+        ("53 04 00000000 00 0100 00", data.as_str()),
+    ] {
+        let outcome = rig.send(1, cdb, sent, 16_384);
+        assert_eq!((outcome.number, outcome.count), (0, Some(16_384)), "{cdb}");
+        assert!(outcome.room == hex(&data), "{cdb}");
+    }
+    rig.good(1, "51 00 00000000 00 0100 00", &data, Good::XorWrite);
+    let media = rig.image.len() - 32_768;
+    assert!(rig.image[media..media + 16_384] == hex(&data));
+}
+
+#[test]
+fn the_limit_of_a_slot_binds_six_commands() {
     let mut rig = Rig::shelf(2, 4, 4, 1, 1);
     let (answer, why) = (Answer::Check(FIELD), Refusal::LengthAboveSlot);
     let data = "0123456789ABCDEF";
@@ -106,7 +130,10 @@ fn the_limit_of_a_slot_binds_three_commands() {
     rig.refused(1, cdb, data, answer, why);
     let cdb = "C0 06 00000000 0002 000002 00000000 00";
     rig.refused(1, cdb, data, answer, why);
-    rig.refused(1, "C1 00 00000000 00 0002 00", data, answer, why);
+    for code in ["C1", "50", "51", "53"] {
+        let cdb = format!("{code} 00 00000000 00 0002 00");
+        rig.refused(1, &cdb, data, answer, why);
+    }
     rig.refused(1, "C4 00 00000002 00 0010 00", list, answer, why);
 }
 
@@ -128,5 +155,10 @@ fn a_length_of_65535_blocks_is_taken_whole() {
     rig.refused(1, "28 00 00000000 00 FFFF 00", "", answer, why);
     let why = Refusal::LengthAboveSlot;
     let answer = Answer::Check(FIELD);
-    rig.refused(1, "C1 00 00000000 00 FFFF 00", "", answer, why);
+    for code in ["C1", "50", "51", "53"] {
+        for length in ["FFFF", "FF00", "0100"] {
+            let cdb = format!("{code} 00 00000000 00 {length} 00");
+            rig.refused(1, &cdb, "", answer, why);
+        }
+    }
 }

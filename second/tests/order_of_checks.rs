@@ -14,6 +14,11 @@ const REBUILD: &str = "C3 00 00000001 00 0010 00";
 const REBUILD_OF_TWO: &str = "C3 00 00000001 00 0018 00";
 const REGENERATE: &str = "C4 00 00000001 00 0010 00";
 
+/// The codes of 1994, READ and WRITE, and the published ones.
+const KNOWN: [u8; 11] = [
+    0xC0, 0xC1, 0xC2, 0xC3, 0xC4, 0x28, 0x2A, 0x50, 0x51, 0x52, 0x53,
+];
+
 /// The bench shelf with its slot used.
 fn full() -> Rig {
     let mut rig = Rig::bench();
@@ -50,10 +55,10 @@ fn the_cdb_length_comes_before_the_failed_target() {
 #[test]
 fn a_known_code_has_one_length() {
     let mut rig = Rig::bench();
-    for code in ["C0", "C1", "C2", "C3", "C4", "28", "2A"] {
-        let right = if code == "C0" { 16 } else { 10 };
+    for code in KNOWN {
+        let right = if code == 0xC0 { 16 } else { 10 };
         for length in (1..20).filter(|length| *length != right) {
-            let cdb = format!("{code} {}", "00".repeat(length - 1));
+            let cdb = format!("{code:02X} {}", "00".repeat(length - 1));
             rig.refused(1, &cdb, "", Answer::Call(3), Refusal::CdbLength);
         }
     }
@@ -72,9 +77,8 @@ fn an_unknown_code_comes_before_the_failed_target_at_any_length() {
 }
 
 #[test]
-fn every_code_but_seven_is_unknown() {
-    let known = [0xC0, 0xC1, 0xC2, 0xC3, 0xC4, 0x28, 0x2A];
-    for code in (0..=0xFF).filter(|code| !known.contains(code)) {
+fn every_code_but_eleven_is_unknown() {
+    for code in (0..=0xFF).filter(|code| !KNOWN.contains(code)) {
         let cdb = format!("{code:02X} 00 00000000 00 0000 00");
         Rig::bench().refused(1, &cdb, "", Answer::Check(CODE), Refusal::UnknownCode);
     }
@@ -85,6 +89,10 @@ fn the_failed_target_comes_before_bits_and_data() {
     let mut rig = Rig::bench();
     rig.mark(1, 1);
     let (answer, why) = (Answer::Check(GONE), Refusal::TargetFailed);
+    for code in KNOWN.into_iter().filter(|code| *code != 0xC0) {
+        let cdb = format!("{code:02X} FF 00000000 FF FFFF FF");
+        rig.refused(1, &cdb, "01", answer, why);
+    }
     rig.refused(1, "28 01 00000000 00 0001 00", "01", answer, why);
     rig.refused(1, "28 00 00000000 00 0000 00", "", answer, why);
     rig.refused(1, "C3 00 00000001 00 0000 00", "", answer, why);

@@ -147,6 +147,28 @@ fn the_program_writes_the_cases_of_a_seed() {
 }
 
 #[test]
+fn the_program_picks_the_first_calls_of_each_way() {
+    let reset = format!("reset {BENCH} 00000001");
+    let other = format!("reset {BENCH} 00000002");
+    let lines = [
+        "reset - 00000001",
+        "nonsense",
+        &reset,
+        "reset - 00000002",
+        "rows -",
+        "reset 00 00000001",
+        "reset - 00000003",
+        &other,
+    ];
+    let input = lines.join("\n");
+    let short = "reset - 00000001\nreset - 00000002\n";
+    assert_eq!(printed(&["pick", "2", "16"], input.as_bytes()), short);
+    let longer = printed(&["pick", "1", "300"], input.as_bytes());
+    assert_eq!(longer, format!("reset - 00000001\n{reset}\n"));
+    assert_eq!(printed(&["pick", "0", "300"], input.as_bytes()), "");
+}
+
+#[test]
 fn wrong_arguments_are_told_the_usage() {
     for arguments in [
         &["help"][..],
@@ -154,6 +176,8 @@ fn wrong_arguments_are_told_the_usage() {
         &["cases", "1"],
         &["cases", "x", "1"],
         &["cases", "1", "-1"],
+        &["pick", "1"],
+        &["pick", "1", "x"],
         &["answer", "1"],
     ] {
         let output = run(arguments, b"");

@@ -2,132 +2,127 @@
 //! keeps the rules that hold for all of them.
 
 mod rules;
+mod seen;
 
 use rules::{check, field, number};
-use second::{
-    next_call, random_case, random_shelf, Call, Case, Good, Random, Reached, Refusal, Shelf,
-};
-use std::collections::BTreeMap;
-
-/// How often a call was decided in one way, by the first byte of its CDB.
-type Seen = BTreeMap<(Option<u8>, Reached), u32>;
-
-const ALL: &[u8] = &[0xC0, 0xC1, 0xC2, 0xC3, 0xC4, 0x28, 0x2A];
-const TEN_BYTES: &[u8] = &[0xC1, 0xC2, 0xC3, 0xC4, 0x28, 0x2A];
-const LISTED: &[u8] = &[0xC3, 0xC4];
-const NOT_LISTED: &[u8] = &[0xC0, 0xC1, 0x28, 0x2A];
-
-/// The codes that a refusal of check 3 to 11 can come to.
-fn codes_refused(refusal: Refusal) -> &'static [u8] {
-    use Refusal::*;
-    match refusal {
-        CdbLength | TargetFailed | ReservedByte1 | ControlByte | DataCount => ALL,
-        ReservedByte6 => TEN_BYTES,
-        OtherPort => &[0xC0, 0xC3, 0xC4],
-        NDiscWithoutRetain | SecondaryIsTarget => &[0xC0],
-        SecondaryUnknown | SecondaryFailed | SecondaryOutOfRange => &[0xC0],
-        LengthAboveSlot => &[0xC0, 0xC1, 0xC4],
-        ToTheEndWithIntData | EndOutOfRange => &[0xC3],
-        RetainInList | ListBelowEight | ListLength | NoSources | EntryType | ListReserved => LISTED,
-        SourceIsTarget | SourceUnknown | SourceFailed | SourceOutOfRange => LISTED,
-        NoResult | OtherLength => &[0xC2],
-        OutOfRange => &[0xC0, 0xC1, 0xC3, 0xC4, 0x28, 0x2A],
-        NoEmptySlot => &[0xC0, 0xC4],
-        ReceiveRoomShort => &[0xC2, 0x28],
-        SenseRoomShort | NotAShelf | NoSuchTarget | EmptyCdb | BadState | UnknownCode => &[],
-    }
-}
-
-/// The codes that a kind of GOOD can come to.
-fn codes_good(good: Good) -> &'static [u8] {
-    use Good::*;
-    match good {
-        ZeroLength => NOT_LISTED,
-        NoList | ZeroLengthWithList => LISTED,
-        Read => &[0x28],
-        Write => &[0x2A],
-        XorWrite => &[0xC1],
-        XorSent | MirrorSent => &[0xC0],
-        XorRetained | MirrorRetained | XorRetainedOnly | MirrorRetainedOnly => &[0xC0],
-        FetchedXdWrite | FetchedRegenerate => &[0xC2],
-        Rebuilt | RebuiltWithData | RebuiltToTheEnd => &[0xC3],
-        Regenerated | RegeneratedWithData => &[0xC4],
-        ResetDropped | ResetNothing | MarkedPresent | MarkedFailed => &[],
-    }
-}
-
-fn codes(reached: Reached) -> &'static [u8] {
-    match reached {
-        Reached::Refused(refusal) => codes_refused(refusal),
-        Reached::Good(good) => codes_good(good),
-    }
-}
-
-fn everything() -> impl Iterator<Item = Reached> {
-    let refusals = Refusal::ALL
-        .iter()
-        .map(|refusal| Reached::Refused(*refusal));
-    refusals.chain(Good::ALL.iter().map(|good| Reached::Good(*good)))
-}
-
-fn count(seen: &mut Seen, image: &[u8], call: &Call) {
-    let code = match call {
-        Call::Step(step) => step.cdb.first().copied(),
-        _ => None,
-    };
-    if let Some(reached) = call.reached(image) {
-        *seen.entry((code, reached)).or_default() += 1;
-    }
-}
-
-/// Every way to be decided came up, for each command it can come to, and no
-/// command was decided in a way that is not its own.
-fn expect_everything(seen: &Seen, but_for: Option<Reached>) {
-    assert!(!seen.keys().any(|(_, reached)| Some(*reached) == but_for));
-    for reached in everything().filter(|reached| Some(*reached) != but_for) {
-        let total = seen.iter().filter(|((_, other), _)| *other == reached);
-        let total: u32 = total.map(|(_, times)| times).sum();
-        assert!(total >= 10, "{reached:?} was reached {total} times");
-        for code in codes(reached) {
-            let times = seen.get(&(Some(*code), reached)).copied().unwrap_or(0);
-            assert!(times >= 3, "{reached:?} by {code:02X} {times} times");
-        }
-    }
-    for (code, reached) in seen.keys() {
-        let own = codes(*reached);
-        let fits = code.is_some_and(|code| own.contains(&code));
-        assert!(own.is_empty() || fits, "{reached:?} by {code:02X?}");
-    }
-}
+use second::{next_call, random_case, random_shelf};
+use second::{Call, Case, Good, Random, Reached, Refusal, Shelf, StepCall};
+use seen::Seen;
 
 #[test]
 fn single_calls_reach_everything_and_keep_the_rules() {
-    let mut seen = Seen::new();
+    let mut seen = Seen::default();
     for seed in 1..=4 {
         let mut random = Random::new(seed);
         for _ in 0..15_000 {
             let Case { mut image, call } = random_case(&mut random);
-            count(&mut seen, &image, &call);
+            seen.count(&image, &call);
             check(&mut image, &call);
         }
     }
-    expect_everything(&seen, None);
+    seen.expect_all_but(&[]);
 }
 
 #[test]
 fn runs_on_one_image_reach_everything_on_a_shelf_and_keep_the_rules() {
-    let mut seen = Seen::new();
+    let mut seen = Seen::default();
     let mut random = Random::new(5);
     for _ in 0..200 {
         let mut image = random_shelf(&mut random);
         assert!(Shelf::read(&image).is_some());
         for _ in 0..300 {
             let call = next_call(&mut random, &image);
-            count(&mut seen, &image, &call);
+            seen.count(&image, &call);
             check(&mut image, &call);
         }
     }
-    expect_everything(&seen, Some(Reached::Refused(Refusal::NotAShelf)));
+    assert_eq!(seen.total(), 60_000);
+    seen.expect_all_but(&[Reached::Refused(Refusal::NotAShelf)]);
+}
+
+/// Random steps of one code, each with the image it is made on.
+fn steps_of(code: u8, seed: u64, count: usize) -> impl Iterator<Item = (Vec<u8>, StepCall)> {
+    let mut random = Random::new(seed);
+    std::iter::repeat_with(move || random_case(&mut random))
+        .filter_map(|case| match case.call {
+            Call::Step(step) => Some((case.image, step)),
+            _ => None,
+        })
+        .filter(move |(_, step)| step.cdb.first() == Some(&code))
+        .take(count)
+}
+
+/// The step and one with another CDB give the same back and leave the same
+/// image; gives the number.
+fn same(image: &[u8], one: &StepCall, cdb: Vec<u8>) -> u32 {
+    let mut other = one.clone();
+    other.cdb = cdb;
+    let (mut left, mut right) = (image.to_vec(), image.to_vec());
+    let outcome = one.run(&mut left);
+    assert_eq!(outcome, other.run(&mut right), "{one:?}");
+    assert!(left == right, "{one:?}");
+    outcome.number
+}
+
+#[test]
+fn xpwrite_and_xdread_are_the_same_in_both_sets() {
+    for (code, other) in [(0xC1, 0x51), (0x51, 0xC1), (0xC2, 0x52), (0x52, 0xC2)] {
+        let mut good = 0;
+        for (image, step) in steps_of(code, 13, 1_500) {
+            let mut cdb = step.cdb.clone();
+            cdb[0] = other;
+            good += u32::from(same(&image, &step, cdb) == 0);
+        }
+        assert!(good > 150, "{good} of {code:02X}");
+    }
+}
+
+/// "50h always retains": it is an XDWRITE with Sec Ctl 11, and DISABLE WRITE is
+/// its NDisc. A bit that must be zero is sent as one.
+#[test]
+fn xdwrite_10_is_xdwrite_with_sec_ctl_11() {
+    let mut good = 0;
+    for (image, step) in steps_of(0x50, 14, 3_000).filter(|(_, step)| step.cdb.len() == 10) {
+        let old = &step.cdb;
+        let spoilt = old[1] & 0b1110_0011 != 0 || old[6] != 0;
+        let mut cdb = vec![0xC0, (old[1] & 4) << 3 | 6 | u8::from(spoilt)];
+        cdb.extend_from_slice(&old[2..6]);
+        cdb.extend_from_slice(&old[7..9]);
+        cdb.extend_from_slice(&[0; 7]);
+        cdb.push(old[9]);
+        good += u32::from(same(&image, &step, cdb) == 0);
+    }
+    assert!(good > 300, "{good}");
+}
+
+/// What 53h hands over is what 50h would retain, and it leaves the media alike.
+#[test]
+fn xdwriteread_10_hands_over_what_xdwrite_10_retains() {
+    let mut seen = [0; 2];
+    for (image, step) in steps_of(0x53, 15, 3_000) {
+        let call = Call::Step(step.clone());
+        let disabled = match call.reached(&image) {
+            Some(Reached::Good(Good::XorHanded)) => 0,
+            Some(Reached::Good(Good::XorHandedOnly)) => 1,
+            _ => continue,
+        };
+        let mut handed = image.clone();
+        let outcome = step.run(&mut handed);
+        let (mut retained, mut retain) = (image.clone(), step.clone());
+        retain.cdb[0] = 0x50;
+        if retain.run(&mut retained).number == 8 {
+            continue;
+        }
+        let mut read = step.clone();
+        (read.cdb[0], read.cdb[1]) = (0x52, 0);
+        read.data.clear();
+        assert_eq!(read.run(&mut retained), outcome);
+        let media = field(&image, 7);
+        assert_eq!(handed[media..], retained[media..]);
+        assert_eq!(handed[..media], image[..media]);
+        seen[disabled] += 1;
+    }
+    assert!(seen[0] > 300 && seen[1] > 300, "{seen:?}");
 }
 
 #[test]

@@ -1,4 +1,6 @@
 //! 2,000 recorded calls with their answers, in the line format of the program.
+//! They were recorded when 50h to 53h were unknown codes; the answers of lines
+//! 185, 225, 572, 1805 and 1968 are those of A1 since.
 
 use second::{answer_line, case_line, parse_line};
 

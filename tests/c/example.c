@@ -21,6 +21,7 @@ static const uint8_t bench[IMAGE] = {
     0x0B, 0x09, 0x0F, 0x09, 0, 0, 0, 0,                                        /* of drive 3 */
 };
 
+static const uint8_t fresh[LENGTH] = {0xFF, 0x00, 0xFF, 0x00};
 static uint8_t image[IMAGE];
 static uint8_t result[LENGTH];
 static int failed = 0;
@@ -63,6 +64,8 @@ static void say_rows(const char *when) {
 static void begin(const char *name) {
     for (size_t i = 0; i < IMAGE; i++)
         image[i] = bench[i];
+    for (size_t i = 0; i < LENGTH; i++)
+        result[i] = 0;
     say(name);
     say_rows("  before\n");
 }
@@ -93,22 +96,23 @@ static uint32_t send(uint32_t target, const uint8_t *cdb, size_t cdb_len, const 
 /* New data to block 0 of drive 1. Sec Ctl 0 sends the result to block 0 of drive 3, and 3 retains it. */
 static void xdwrite(uint8_t sec_ctl) {
     const uint8_t cdb[16] = {0xC0, (uint8_t)(sec_ctl << 1), 0, 0, 0, 0, 0, 1, 0, 0, 3, 0, 0, 0, 0, 0};
-    const uint8_t data[LENGTH] = {0xFF, 0x00, 0xFF, 0x00};
-    send(1, cdb, sizeof cdb, data, sizeof data, NULL, 0);
+    send(1, cdb, sizeof cdb, fresh, sizeof fresh, NULL, 0);
     say_rows("  after XDWRITE to drive 1\n");
 }
 
-static void xdread(void) {
-    const uint8_t cdb[10] = {0xC2, 0, 0, 0, 0, 0, 0, 0, 1, 0};
-    uint32_t count = send(1, cdb, sizeof cdb, NULL, 0, result, sizeof result);
-    say("  XDREAD from drive 1 hands back ");
+/* A command on block 0 of drive 1 that hands a result back: XDREAD, or XDWRITEREAD(10) with new data. */
+static void fetch(const char *what, uint8_t code, const uint8_t *data, size_t data_len) {
+    const uint8_t cdb[10] = {code, 0, 0, 0, 0, 0, 0, 0, 1, 0};
+    uint32_t count = send(1, cdb, sizeof cdb, data, data_len, result, sizeof result);
+    say(what);
     say_bytes(result, count);
     say("\n");
     say_rows("  after it\n");
 }
 
-static void xpwrite(void) {
-    const uint8_t cdb[10] = {0xC1, 0, 0, 0, 0, 0, 0, 0, 1, 0};
+/* XPWRITE of the result, which C1h and 51h do alike. */
+static void xpwrite(uint8_t code) {
+    const uint8_t cdb[10] = {code, 0, 0, 0, 0, 0, 0, 0, 1, 0};
     send(3, cdb, sizeof cdb, result, sizeof result, NULL, 0);
     say_rows("  after XPWRITE to drive 3\n");
 }
@@ -120,7 +124,10 @@ int main(void) {
     xdwrite(3);
     begin("C3: the result is fetched and carried to drive 3\n");
     xdwrite(3);
-    xdread();
-    xpwrite();
+    fetch("  XDREAD from drive 1 hands back ", 0xC2, NULL, 0);
+    xpwrite(0xC1);
+    begin("53h: drive 1 hands its result back in the same step, and 51h carries it to drive 3\n");
+    fetch("  XDWRITEREAD(10) to drive 1 hands back ", 0x53, fresh, sizeof fresh);
+    xpwrite(0x51);
     return failed;
 }

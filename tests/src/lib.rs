@@ -24,5 +24,5 @@ pub use agree::agree;
 pub use as_second::{mark, reset, step, Call, StepCall};
 pub use lines::answer_line;
 pub use second::{case_line, listing, parse_line, rows};
-pub use second::{Good, Reached, Refusal, Shelf, StepOutcome};
+pub use second::{Good, Reached, Refusal, Shelf, StepOutcome, SENSE_SIZE};
 pub use through_c::{through_c, Empty};

@@ -20,6 +20,8 @@ mod media;
 mod numbers;
 #[path = "../../second/tests/order_of_checks.rs"]
 mod order_of_checks;
+#[path = "../../second/tests/published.rs"]
+mod published;
 #[path = "../../second/tests/recorded_cases.rs"]
 mod recorded_cases;
 #[path = "../../second/tests/results.rs"]

@@ -37,6 +37,12 @@ fn commands() -> Vec<StepCall> {
         step("C4 04 00000001 00 0018 00", &with_data),
         step("28 00 00000000 00 0002 00", ""),
         step("2A 00 00000000 00 0002 00", "0123456789ABCDEF"),
+        step("50 00 00000000 00 0001 00", "FF00FF00"),
+        step("50 04 00000000 00 0002 00", "0123456789ABCDEF"),
+        step("51 00 00000001 00 0001 00", "FF00FF00"),
+        step("52 00 00000000 00 0001 00", ""),
+        step("53 00 00000000 00 0002 00", "0123456789ABCDEF"),
+        step("53 04 00000001 00 0001 00", "FF00FF00"),
     ]
 }
 
@@ -151,8 +157,9 @@ fn data_of_every_length() {
 fn receive_rooms_of_every_length() {
     for call in commands() {
         let short = match call.cdb[0] {
-            0xC2 => 4,
+            0xC2 | 0x52 => 4,
             0x28 => 8,
+            0x53 => call.data.len(),
             _ => 0,
         };
         let good = good(with_every_length(&call, 60, |call| &mut call.room));

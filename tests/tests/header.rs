@@ -1,5 +1,11 @@
 //! `include/shelf.h` says what these tests link and compare.
 
+extern crate shelf_tests as second;
+
+#[path = "../../second/tests/common/mod.rs"]
+mod common;
+
+use common::Rig;
 use second::{Refusal, SENSE_SIZE};
 
 const HEADER: &str = include_str!("../../include/shelf.h");
@@ -33,6 +39,26 @@ fn the_numbers_are_those_of_the_answers() {
     }
     assert_eq!(defined("SHELF_GOOD"), 0);
     assert_eq!(defined("SHELF_SENSE_SIZE") as usize, SENSE_SIZE);
+}
+
+#[test]
+fn the_table_of_commands_has_the_known_codes() {
+    let lines = HEADER.lines();
+    let table = lines
+        .skip_while(|line| !line.contains("what it does"))
+        .skip(1)
+        .take_while(|line| line.len() > 2);
+    let mut listed: Vec<u8> = table
+        .flat_map(|line| line[..40].split_whitespace())
+        .filter_map(|word| word.strip_suffix('h'))
+        .map(|code| u8::from_str_radix(code, 16).expect("a code"))
+        .collect();
+    listed.sort_unstable();
+    listed.dedup();
+    // A code alone is call 3 where it is known.
+    let known = |code: &u8| Rig::bench().send(1, &format!("{code:02X}"), "", 0).number == 259;
+    let known: Vec<u8> = (0..=0xFF).filter(known).collect();
+    assert_eq!(listed, known);
 }
 
 #[test]

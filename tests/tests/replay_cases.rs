@@ -1,7 +1,8 @@
-//! The stored cases of the program `replay`, lines of `second cases 2001 20000`: each refusal and
-//! each kind of GOOD six times, and no line longer than 1,000 characters.
+//! The stored cases of the program `replay`: each refusal and each kind of GOOD three times for
+//! each command that it can come to, and no line longer than 1,000 characters. The files are
+//! `second cases 2001 40000 | second pick 3 1000` and what `second answer` says to it.
 
-use second::{parse_line, Good, Reached, Refusal};
+use second::{parse_line, Way};
 use std::collections::BTreeMap;
 
 const CASES: &str = include_str!("../replay/cases.txt");
@@ -17,14 +18,14 @@ fn both_implementations_answer_as_stored() {
 }
 
 #[test]
-fn every_way_to_decide_a_call_is_there_six_times() {
-    let mut seen: BTreeMap<Reached, u32> = BTreeMap::new();
+fn every_way_to_decide_a_call_is_there_three_times() {
+    let mut seen: BTreeMap<Way, u32> = BTreeMap::new();
     for line in CASES.lines() {
         assert!(line.len() <= 1_000, "{line}");
         let case = parse_line(line).expect("a case");
-        let reached = case.call.reached(&case.image).expect("a call with checks");
-        *seen.entry(reached).or_default() += 1;
+        let way = Way::of(&case.call, &case.image).expect("a call with checks");
+        *seen.entry(way).or_default() += 1;
     }
-    assert_eq!(seen.len(), Refusal::ALL.len() + Good::ALL.len());
-    assert!(seen.values().all(|times| *times == 6), "{seen:?}");
+    let all: BTreeMap<Way, u32> = Way::all().into_iter().map(|way| (way, 3)).collect();
+    assert_eq!(seen, all);
 }

@@ -99,12 +99,21 @@ fn every_call(image: &mut [u8]) -> usize {
     let ten = |code| [code, 0, 0, 0, 0, 0, 0, 0, 4, 0];
     let xdwrite = |byte1| [0xC0, byte1, 0, 0, 0, 0, 0, 4, 0, 0, 32, 0, 0, 0, 0, 0];
     let data = [0xA5; 2048];
-    most = most.max(command(image, "READ", &ten(0x28), &[]));
-    most = most.max(command(image, "WRITE", &ten(0x2A), &data));
-    most = most.max(command(image, "XPWRITE", &ten(0xC1), &data));
-    most = most.max(command(image, "XDWRITE, sent", &xdwrite(0x00), &data));
-    most = most.max(command(image, "XDWRITE, retained", &xdwrite(0x06), &data));
-    most = most.max(command(image, "XDREAD", &ten(0xC2), &[]));
+    let calls: [(&str, &[u8], &[u8]); 10] = [
+        ("READ", &ten(0x28), &[]),
+        ("WRITE", &ten(0x2A), &data),
+        ("XPWRITE", &ten(0xC1), &data),
+        ("XDWRITE, sent", &xdwrite(0x00), &data),
+        ("XDWRITE, retained", &xdwrite(0x06), &data),
+        ("XDREAD", &ten(0xC2), &[]),
+        ("XDWRITE(10)", &ten(0x50), &data),
+        ("XDREAD(10)", &ten(0x52), &[]),
+        ("XPWRITE(10)", &ten(0x51), &data),
+        ("XDWRITEREAD(10)", &ten(0x53), &data),
+    ];
+    for (name, cdb, sent) in calls {
+        most = most.max(command(image, name, cdb, sent));
+    }
     for sources in [1, 255] {
         most = most.max(with_list(image, sources));
     }

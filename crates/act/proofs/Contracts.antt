@@ -20,6 +20,12 @@ xdread = act.moves.xdread.Reads.Post
 abbrev pub pass-on : Out 2 act.pass.pass_on.Kinds.ps act.pass.pass_on.Kinds.r
 pass-on = act.pass.pass_on.Reads.Post
 
+abbrev pub mix : Out 3 act.pass.mix.Kinds.ps act.pass.mix.Kinds.r
+mix = act.pass.mix.Reads.Post
+
+abbrev pub write-data : Out 2 act.pass.write_data.Kinds.ps act.pass.write_data.Kinds.r
+write-data = act.pass.write_data.Reads.Post
+
 abbrev pub rebuild : Out 2 act.rebuild.rebuild.Kinds.ps act.rebuild.rebuild.Kinds.r
 rebuild = act.rebuild.rebuild.Reads.Post
 
@@ -31,3 +37,6 @@ couple = act.xdwrite.couple.Reads.Post
 
 abbrev pub retain : Out 2 act.xdwrite.retain.Kinds.ps act.xdwrite.retain.Kinds.r
 retain = act.xdwrite.retain.Reads.Post
+
+abbrev pub xdwriteread : Out 3 act.xdwrite.xdwriteread.Kinds.ps act.xdwrite.xdwriteread.Kinds.r
+xdwriteread = act.xdwrite.xdwriteread.Reads.Post

@@ -17,11 +17,11 @@ module _ (s : List ℕ) (g : Geometry) (sent : List ℕ) (act : Act) (a : Act) (
   few-as h = rw e at h
 
   -- what was done and handed over
-  pub done-as : (room t u : List ℕ) (n : ℕ) → t ≡ leaves s g sent a → u ≡ put room 0 (hands s g a) → n ≡ length (hands s g a)
-      → (t ≡ leaves s g sent act) × (u ≡ put room 0 (hands s g act)) × (n ≡ length (hands s g act))
+  pub done-as : (room t u : List ℕ) (n : ℕ) → t ≡ leaves s g sent a → u ≡ put room 0 (hands s g sent a) → n ≡ length (hands s g sent a)
+      → (t ≡ leaves s g sent act) × (u ≡ put room 0 (hands s g sent act)) × (n ≡ length (hands s g sent act))
   done-as room t u n te ue ne = rw e (te, ue, ne)
 
   -- nothing was handed over
-  pub done-quietly : (room t : List ℕ) → t ≡ leaves s g sent a → hands s g a ≡ []
-      → (t ≡ leaves s g sent act) × (room ≡ put room 0 (hands s g act)) × (0 ≡ length (hands s g act))
+  pub done-quietly : (room t : List ℕ) → t ≡ leaves s g sent a → hands s g sent a ≡ []
+      → (t ≡ leaves s g sent act) × (room ≡ put room 0 (hands s g sent act)) × (0 ≡ length (hands s g sent act))
   done-quietly room t te none = rw (e, none) (te, sym (put-nil room 0), refl)

@@ -1,14 +1,16 @@
--- XDWRITE, from what the decision showed to what the command leaves. Assumes nothing.
+-- XDWRITE, XDWRITE(10) and XDWRITEREAD(10), from what the decision showed to what the command leaves. Assumes nothing.
 use Prim.Native.Nat.{ℕ, _+_, _*_, _≤_}
 use native.Mathlib.Omega.{arith}
 use mathlib.Core.Path.{_≡_, sym, ap, ap₂, _∙_}
 use mathlib.Core.Bool.{true, false, cond}
 use mathlib.Core.Logic.{inl, inr, ⊎-elim}
-use mathlib.Core.List.{List, [], _∷_}
+use mathlib.Core.List.{List, [], _∷_, _++_}
 use lib.Dec.{eqb}
-use lib.ListN.{length}
-use Rattle.octets.specs.Part.{part}
-use Rattle.octets.specs.Put.{put}
+use lib.ListN.{length, take, drop}
+use lib.Seq.{length-take-le}
+use Rattle.octets.specs.Part.{part, part-all, length-part-le}
+use Rattle.octets.specs.Put.{put, put-cut}
+use Rattle.octets.specs.Xor.{_⊻_, length-xor-le}
 use Rattle.geometry.specs.declared.Geometry.{Geometry}
 use Rattle.geometry.specs.Header.{slotAt, dataAt}
 use Rattle.geometry.specs.Frame.{Framed}
@@ -17,10 +19,10 @@ use Rattle.slots.specs.Record.{bytesOf}
 use Rattle.slots.specs.Slots.{usedCount}
 use Rattle.slots.specs.Change.{entry}
 use Rattle.meaning.specs.declared.Span.{Span}
-use Rattle.meaning.specs.declared.Act.the-variants.{Couple, Retain}
-use Rattle.meaning.specs.Acts.{store, spanAt, mixed, laid, leaves}
-use Rattle.meaning.specs.Stores.{stored-data}
-use Rattle.meaning.specs.Allowed.{Blocks, Filled, Limited, Free}
+use Rattle.meaning.specs.declared.Act.the-variants.{Couple, Retain, XdWriteRead}
+use Rattle.meaning.specs.Acts.{store, spanAt, blocksOf, mixed, laid, leaves, hands}
+use Rattle.meaning.specs.Stores.{stored-data, stored-alone}
+use Rattle.meaning.specs.Allowed.{Blocks, Filled, Roomy, Limited, Free}
 use Rattle.meaning.specs.Lengths.{span-after-media, span-in}
 use Rattle.act.specs.declared.pass.Pass.{Pass}
 use Rattle.act.specs.Pass.{passedOf, Passable}
@@ -80,3 +82,31 @@ module _ (s : List ℕ) (g : Geometry) (x : Span) (i mirror ndisc from at : ℕ)
       ∙ ap₂ (λ (a n : ℕ). put (put (put s a (cond (eqb ndisc 0) sent [])) (at + 16) (mixed mirror sent (part s a n))) at r) fe f
       ∙ ap (λ (a : ℕ). put (put (put s (spanAt g x) (cond (eqb ndisc 0) sent [])) (a + 16) v) a r) ae
       ∙ sym (stored-data s g x ndisc sent (store (dataAt g i) v ∷ store (slotAt g i) r ∷ []))
+
+-- ---- the result goes to the room's front
+
+module _ (g : Geometry) (x : Span) (sent room : List ℕ) (f : Filled g x sent) (r : Roomy g x (length room)) where
+  -- the front that the blocks take
+  pub front-long : length (take (length sent) room) ≡ length sent
+  front-long = length-take-le (length sent) room (omega (arith, f, r))
+
+  -- it became v, and the image t
+  pub xdwriteread-by : (s : List ℕ) (disable at : ℕ) (v t : List ℕ) → at ≡ spanAt g x
+      → v ≡ mixed 0 (part sent 0 (length (take (length sent) room))) (part s at (length (take (length sent) room)))
+      → t ≡ put s at (cond (eqb disable 0) (part sent 0 (length sent)) [])
+      → (t ≡ leaves s g sent (XdWriteRead x disable)) × (v ++ drop (length sent) room ≡ put room 0 (hands s g sent (XdWriteRead x disable))) × (length sent ≡ length (hands s g sent (XdWriteRead x disable)))
+  xdwriteread-by s disable at v t e ve te =
+      let n : length (sent ⊻ blocksOf s g x) ≡ length sent =
+      length-xor-le sent (blocksOf s g x) (omega (arith, length-part-le s (spanAt g x) (x .count * g .l), f)) in
+      let q : v ≡ sent ⊻ blocksOf s g x =
+      ve
+      ∙ ap (λ (j : ℕ). part sent 0 j ⊻ part s at j) front-long
+      ∙ ap₂ (λ (y : List ℕ) (a : ℕ). y ⊻ part s a (length sent)) (part-all sent) e
+      ∙ ap (λ (j : ℕ). sent ⊻ part s (spanAt g x) j) f in
+      let l : length v ≡ length sent = ap length q ∙ n in
+      let image =
+      te
+      ∙ ap₂ (λ (a : ℕ) (y : List ℕ). put s a (cond (eqb disable 0) y [])) e (part-all sent)
+      ∙ sym (stored-alone s g x disable sent) in
+      let front = ap (λ (j : ℕ). v ++ drop j room) (sym l) ∙ sym (put-cut room 0 v (omega (arith, f, r))) ∙ ap (put room 0) q in
+      (image, front, sym n)

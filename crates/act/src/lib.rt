@@ -18,7 +18,7 @@ ghost use Rattle.meaning.specs.Allowed.{Allowed, Few};
 // Carries the command out; the result is how many bytes went to the room's front.
 pub fn carry_out(image: &mut [u8], g: Geometry, act: Act, sent: &[u8], room: &mut [u8]) -> usize
     requires { ⌜ Framed (now image) g × Allowed (now image) g (now sent) (length (now room)) act × Few act ⌝ }
-    ensures { λ r. ⌜ (now (image .exit) ≡ leaves (now (image .entry)) g (now (sent .entry)) act) × (now (room .exit) ≡ put (now (room .entry)) 0 (hands (now (image .entry)) g act)) × (r ≡ length (hands (now (image .entry)) g act)) ⌝ }
+    ensures { λ r. ⌜ (now (image .exit) ≡ leaves (now (image .entry)) g (now (sent .entry)) act) × (now (room .exit) ≡ put (now (room .entry)) 0 (hands (now (image .entry)) g (now (sent .entry)) act)) × (r ≡ length (hands (now (image .entry)) g (now (sent .entry)) act)) ⌝ }
 {
     match act {
         Act::Read(x) => moves::read(image, g, x, room),
@@ -47,5 +47,6 @@ pub fn carry_out(image: &mut [u8], g: Geometry, act: Act, sent: &[u8], room: &mu
             rebuild::regenerate(image, g, x, n, int, i, sent);
             0
         }
+        Act::XdWriteRead(x, disable) => xdwrite::xdwriteread(image, g, x, disable, sent, room),
     }
 }

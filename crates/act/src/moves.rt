@@ -17,7 +17,7 @@ ghost use Rattle.meaning.specs.Allowed.{Allowed};
 // READ: the blocks go to the room's front.
 pub fn read(image: &[u8], g: Geometry, x: Span, room: &mut [u8]) -> usize
     requires { ⌜ Framed (now image) g × Allowed (now image) g [] (length (now room)) (Read x) ⌝ }
-    ensures { λ r. ⌜ (now (room .exit) ≡ put (now (room .entry)) 0 (hands (now (image .entry)) g (Read x))) × (r ≡ length (hands (now (image .entry)) g (Read x))) ⌝ }
+    ensures { λ r. ⌜ (now (room .exit) ≡ put (now (room .entry)) 0 (hands (now (image .entry)) g [] (Read x))) × (r ≡ length (hands (now (image .entry)) g [] (Read x))) ⌝ }
 {
     hand_over(image, g.place(x.drive, x.block), x.count * g.l, room)
 }
@@ -41,7 +41,7 @@ pub fn xpwrite(image: &mut [u8], g: Geometry, x: Span, sent: &[u8])
 // XDREAD: slot i's result goes to the room's front, and is no longer retained.
 pub fn xdread(image: &mut [u8], g: Geometry, x: Span, i: usize, room: &mut [u8]) -> usize
     requires { ⌜ Framed (now image) g × Allowed (now image) g [] (length (now room)) (XdRead x i) ⌝ }
-    ensures { λ r. ⌜ (now (image .exit) ≡ leaves (now (image .entry)) g [] (XdRead x i)) × (now (room .exit) ≡ put (now (room .entry)) 0 (hands (now (image .entry)) g (XdRead x i))) × (r ≡ length (hands (now (image .entry)) g (XdRead x i))) ⌝ }
+    ensures { λ r. ⌜ (now (image .exit) ≡ leaves (now (image .entry)) g [] (XdRead x i)) × (now (room .exit) ≡ put (now (room .entry)) 0 (hands (now (image .entry)) g [] (XdRead x i))) × (r ≡ length (hands (now (image .entry)) g [] (XdRead x i))) ⌝ }
 {
     let n = hand_over(image, g.slot_at(i) + RECORD, x.count * g.l, room);
     slots::release(image, g, i);

@@ -64,7 +64,7 @@ fn pass_piece(image: &mut [u8], sent: &[u8], p: Pass, o: usize, acc: &mut [u8])
 }
 
 // The result's bytes: those sent from o on, without mirror XORed to those at index from.
-fn mix(acc: &mut [u8], image: &[u8], from: usize, mirror: usize, sent: &[u8], o: usize)
+pub fn mix(acc: &mut [u8], image: &[u8], from: usize, mirror: usize, sent: &[u8], o: usize)
     requires { ⌜ (from + length (now acc) ≤ length (now image)) × (o + length (now acc) ≤ length (now sent)) ⌝ }
     ensures { λ _. ⌜ now (acc .exit) ≡ mixed mirror (part (now (sent .entry)) o (length (now (acc .entry)))) (part (now (image .entry)) from (length (now (acc .entry)))) ⌝ }
 {
@@ -75,7 +75,7 @@ fn mix(acc: &mut [u8], image: &[u8], from: usize, mirror: usize, sent: &[u8], o:
 }
 
 // With writes, the k bytes sent from o on go to index at.
-fn write_data(image: &mut [u8], at: usize, writes: bool, sent: &[u8], o: usize, k: usize)
+pub fn write_data(image: &mut [u8], at: usize, writes: bool, sent: &[u8], o: usize, k: usize)
     requires { ⌜ (at + k ≤ length (now image)) × (o + k ≤ length (now sent)) ⌝ }
     ensures { λ _. ⌜ now (image .exit) ≡ put (now (image .entry)) at (cond writes (part (now (sent .entry)) o k) []) ⌝ }
 {

@@ -1,12 +1,15 @@
-// XDWRITE: the result goes to the secondary, or is retained.
+// XDWRITE, XDWRITE(10) and XDWRITEREAD(10): the result goes to the secondary, is retained, or goes to the
+// room.
 use crate::pass::Pass;
 use geometry::Geometry;
 use geometry::RECORD;
 use meaning::Span;
 ghost use mathlib.Core.Path.{_≡_};
+ghost use lib.ListN.{length};
+ghost use Rattle.octets.specs.Put.{put};
 ghost use Rattle.geometry.specs.Frame.{Framed};
-ghost use Rattle.meaning.specs.declared.Act.the-variants.{Couple, Retain};
-ghost use Rattle.meaning.specs.Acts.{leaves};
+ghost use Rattle.meaning.specs.declared.Act.the-variants.{Couple, Retain, XdWriteRead};
+ghost use Rattle.meaning.specs.Acts.{leaves, hands};
 ghost use Rattle.meaning.specs.Allowed.{Allowed};
 
 // Sec Ctl 00 or 10: the data goes to the blocks of x, the result to those of y.
@@ -26,7 +29,8 @@ pub fn couple(image: &mut [u8], g: Geometry, x: Span, y: Span, mirror: usize, se
     crate::pass::pass_on(image, sent, p);
 }
 
-// Sec Ctl 11: the data goes to the blocks of x, but with ndisc, and the result to slot i.
+// Sec Ctl 11, or XDWRITE(10): the data goes to the blocks of x, but with ndisc (NDisc, or DISABLE WRITE),
+// and the result to slot i.
 pub fn retain(
     image: &mut [u8],
     g: Geometry,
@@ -51,4 +55,24 @@ pub fn retain(
     };
     crate::pass::pass_on(image, sent, p);
     crate::keep::enter(image, at, rank, 1, x);
+}
+
+// XDWRITEREAD(10): the result goes to the room's front before the data, but with disable, goes to the blocks
+// of x.
+pub fn xdwriteread(
+    image: &mut [u8],
+    g: Geometry,
+    x: Span,
+    disable: usize,
+    sent: &[u8],
+    room: &mut [u8],
+) -> usize
+    requires { ⌜ Framed (now image) g × Allowed (now image) g (now sent) (length (now room)) (XdWriteRead x disable) ⌝ }
+    ensures { λ r. ⌜ (now (image .exit) ≡ leaves (now (image .entry)) g (now (sent .entry)) (XdWriteRead x disable)) × (now (room .exit) ≡ put (now (room .entry)) 0 (hands (now (image .entry)) g (now (sent .entry)) (XdWriteRead x disable))) × (r ≡ length (hands (now (image .entry)) g (now (sent .entry)) (XdWriteRead x disable))) ⌝ }
+{
+    let at = g.place(x.drive, x.block);
+    let n = sent.len();
+    crate::pass::mix(&mut room[..n], image, at, 0, sent, 0);
+    crate::pass::write_data(image, at, disable == 0, sent, 0, n);
+    n
 }

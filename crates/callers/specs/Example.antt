@@ -28,13 +28,14 @@ use Rattle.image.specs.Bench.{zeros, shelfOf, vacant, holding, one, two, three,
 use Rattle.command.specs.declared.Op.the-variants.{XpWrite}
 use Rattle.command.specs.Lossless.{cdbOf}
 use Rattle.meaning.specs.Allowed.{Blocks}
-use Rattle.meaning.specs.Cases.{parity, left, xdwrite, ten, listCdb, head, sourceBytes, room}
-use Rattle.callers.specs.Bytes.{readCdb, writeCdb, xpwriteCdb, xdreadCdb, xdwriteCdb, rebuildCdb, regenerateCdb}
+use Rattle.meaning.specs.Cases.{parity, left, xdwrite, tenSaid, ten, listCdb, head, sourceBytes, room}
+use Rattle.callers.specs.Bytes.{readCdb, writeCdb, xpwriteCdb, xdreadCdb, xdwriteTenCdb, xdwritereadCdb, xdwriteCdb, rebuildCdb, regenerateCdb, codes-say}
 use Rattle.callers.specs.Lists.{source, listOf}
 use Rattle.callers.specs.Does.{blocks, Does, Target}
 use Rattle.callers.specs.Reads.{read-does, xdread-does}
 use Rattle.callers.specs.Writes.{write-does, xpwrite-does}
 use Rattle.callers.specs.Xdwrites.{coupled-does, retained-does}
+use Rattle.callers.specs.Published.{xdwrite-ten-does, xdwriteread-writes, xdwriteread-keeps}
 use Rattle.callers.specs.Idle.{idle-does}
 use Rattle.callers.specs.Sources.{Names}
 use Rattle.callers.specs.Listed.{together-byte}
@@ -45,14 +46,18 @@ use Rattle.callers.specs.Operands.{rebuild-lists, regenerate-lists}
 pub bytes-are :
     (readCdb 0 1 1 ≡ ten 0x28 1 1)
     × (writeCdb 0 1 1 ≡ ten 0x2A 1 1)
-    × (xpwriteCdb 0 9 0 ≡ ten 0xC1 9 0)
-    × (xdreadCdb 0 1 ≡ ten 0xC2 0 1)
+    × (xpwriteCdb 0xC1 0 9 0 ≡ ten 0xC1 9 0)
+    × (xpwriteCdb 0x51 0 9 0 ≡ ten 0x51 9 0)
+    × (xdreadCdb 0xC2 0 1 ≡ ten 0xC2 0 1)
+    × (xdreadCdb 0x52 0 1 ≡ ten 0x52 0 1)
+    × (xdwriteTenCdb 0x1C 0 1 ≡ tenSaid 0x50 0x1C 0 1)
+    × (xdwritereadCdb 0x1C 0 1 ≡ tenSaid 0x53 0x1C 0 1)
     × (xdwriteCdb 0x06 0 1 3 0 ≡ xdwrite 0x06)
     × (rebuildCdb 0 1 2 ≡ listCdb 0xC3 0x18)
     × (regenerateCdb 0 1 1 ≡ listCdb 0xC4 0x10)
     × (listOf 0 (source 2 0 ∷ source 3 0 ∷ []) fresh ≡ head 2 ++ sourceBytes 2 ++ sourceBytes 3 ++ fresh)
 unfolding cdbOf toBe
-bytes-are = (refl, refl, refl, refl, refl, refl, refl, refl)
+bytes-are = (refl, refl, refl, refl, refl, refl, refl, refl, refl, refl, refl, refl)
 
 -- ---- the shelves that the cases start on
 
@@ -105,10 +110,10 @@ pub c3 :
     × Does (shelfOf 0 (left result) fresh two three) 3 (ten 0xC1 0 1) result room 0 (shelfOf 0 (left result) fresh two parity) room
 unfolding cdbOf toBe driveOf newestOf bestOf better every leastBelow slotOf slotAt released lowered lowerOne part num put place _⊻_
 c3 = (
-  xdread-does afterC2 benchShape 1 0 (record { shelf = started .0; found = refl; present = refl }) 0 1 room (lit≤ tt) 0
+  xdread-does afterC2 benchShape 1 0 (record { shelf = started .0; found = refl; present = refl }) 0 1 room (lit≤ tt) 0xC2 (codes-say .4) 0
       (record { answers = refl; slot-in = lit≤ tt; same-len = refl; limited = lit≤ tt }),
   xpwrite-does (shelfOf 0 (left result) fresh two three) benchShape 3 2 (record { shelf = started .1; found = refl; present = refl }) 0 1 result room 0 refl
-      (at (shelfOf 0 (left result) fresh two three) 2 0 (lit≤ tt) (lit≤ tt) refl) refl (lit≤ tt),
+      (at (shelfOf 0 (left result) fresh two three) 2 0 (lit≤ tt) (lit≤ tt) refl) refl 0xC1 (codes-say .2) (lit≤ tt),
 )
 
 -- C7
@@ -141,4 +146,18 @@ c10 = read-does bench benchShape 1 0 first 1 1 room (lit≤ tt) 0 refl (lit≤ t
 
 pub c11 : Does bench 1 (ten 0xC1 9 0) [] room 0 bench room
 unfolding cdbOf toBe
-c11 = idle-does bench benchShape 1 0 first 9 (lit≤ tt) room 0 refl XpWrite tt
+c11 = idle-does bench benchShape 1 0 first 9 (lit≤ tt) room 0xC1 0 XpWrite (codes-say .2) tt refl
+
+-- the published codes: 50h leaves what C2 leaves, 53h hands its result out, with DISABLE WRITE too
+pub published :
+    Does bench 1 (ten 0x50 0 1) fresh room 0 afterC2 room
+    × Does bench 1 (ten 0x53 0 1) fresh room 4 (shelfOf 0 vacant fresh two three) (result ++ replicate 4 0xAA)
+    × Does bench 1 (tenSaid 0x53 0x04 0 1) fresh room 4 bench (result ++ replicate 4 0xAA)
+unfolding cdbOf toBe emptySlot leastBelow slotOf slotAt bytesOf countBelow part num put place _⊻_
+published =
+    let b = at bench 0 0 (lit≤ tt) (lit≤ tt) refl in (
+      xdwrite-ten-does bench benchShape 1 0 first 0 1 fresh room b refl (lit≤ tt) 0 0 (record { no-other = refl; disable-is = refl }) 0
+          (record { takes = refl; slot-in = lit≤ tt; unused = refl }),
+      xdwriteread-writes bench benchShape 1 0 first 0 1 fresh room b refl (lit≤ tt) (lit≤ tt) 0 (record { no-other = refl; disable-is = refl }),
+      xdwriteread-keeps bench benchShape 1 0 first 0 1 fresh room b refl (lit≤ tt) (lit≤ tt) 4 (record { no-other = refl; disable-is = refl }),
+    )

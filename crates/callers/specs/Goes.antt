@@ -61,13 +61,13 @@ module _ (m : List ℕ) (g : Geometry) (a t : ℕ) (h : Target m g a t) (c s r :
 
   -- every check passes
   module _ (o : Op) (k : Command) (x : Act) (w : Says c o k) (p : AllPass (commandChecks o m g t k s (length r))) (e : acts o m g t k s ≡ Go x Good) where
-    pub does : Does m a c s r (length (hands m g x)) (leaves m g s x) (put r 0 (hands m g x))
+    pub does : Does m a c s r (length (hands m g s x)) (leaves m g s x) (put r 0 (hands m g s x))
     does =
         went m a c s r x Good g _ _ _ _ (from-four o k w ∙ none-decides Stop (commandChecks o m g t k s (length r)) (acts o m g t k s) p ∙ e)
         (sym (h .shelf .header)) refl refl refl refl
 
     -- nothing is handed out
-    pub does-quietly : hands m g x ≡ [] → Does m a c s r 0 (leaves m g s x) r
+    pub does-quietly : hands m g s x ≡ [] → Does m a c s r 0 (leaves m g s x) r
     does-quietly z =
         let d : Does m a c s r 0 (leaves m g s x) (put r 0 []) = subst (λ (y : List ℕ). Does m a c s r (length y) (leaves m g s x) (put r 0 y)) z does in
         subst (Does m a c s r 0 (leaves m g s x)) (put-nil r 0) d

@@ -1,4 +1,4 @@
--- "GOOD for zero length (READ, WRITE, XDWRITE, XPWRITE)": nothing moves. Assumes nothing.
+-- "GOOD for zero length (READ, WRITE, XDWRITE, XPWRITE)", and "zero length is GOOD for 50h, 51h and 53h": nothing moves. Assumes nothing.
 use Prim.Native.Nat.{ℕ, _*_, _<_}
 use native.Mathlib.Omega.{arith}
 use mathlib.Core.Bool.{Bool, true, false, not, _&&_, and-false}
@@ -14,19 +14,21 @@ use Rattle.geometry.specs.declared.Geometry.{Geometry}
 use Rattle.drives.specs.Table.{driveOf}
 use Rattle.sense.specs.declared.Answer.the-variants.{Good, WrongCount}
 use Rattle.command.specs.declared.Op.{Op}
-use Rattle.command.specs.declared.Op.the-variants.{XdWrite, XpWrite, XdRead, Rebuild, Regenerate, Read, Write, Unknown}
+use Rattle.command.specs.declared.Op.the-variants.{XdWrite, XpWrite, XdRead, Rebuild, Regenerate, Read, Write, XdWriteTen, XdWriteRead, Unknown}
 use Rattle.command.specs.declared.Command.{Command}
+use Rattle.command.specs.Command.{opOf, zeroBits}
 use Rattle.command.specs.Lossless.{cdbOf}
 use Rattle.meaning.specs.declared.Seen.{Seen}
 use Rattle.meaning.specs.declared.Seen.the-variants.{Dash, Cdb}
 use Rattle.meaning.specs.declared.Decision.the-variants.{Stop}
 use Rattle.meaning.specs.Sources.{isAt}
 use Rattle.meaning.specs.Step.{decided}
-use Rattle.meaning.specs.Checks.{Check, fields, sends, lists, ranges, busy, nested, rooms, acts}
+use Rattle.meaning.specs.Checks.{Check, fields, sends, lists, ranges, busy, nested, rooms, acts, commandChecks}
 use Rattle.meaning.specs.Stepped.{stopped}
-use Rattle.callers.specs.Bytes.{Together, tenSaying, sixteenSaying, xdwriteCdb, ten-says, xdwrite-says}
+use Rattle.callers.specs.Bytes.{Together, tenSaying, sixteenSaying, xdwriteCdb, Ten, ten-says, xdwrite-says}
 use Rattle.callers.specs.Does.{Does, Target}
 use Rattle.callers.specs.Goes.{_then_, from-four}
+use Rattle.callers.specs.Limited.{data-passes}
 use Rattle.callers.specs.Xdwrites.{XdwriteByte, together-not}
 
 -- the 10-byte ones
@@ -38,6 +40,8 @@ Idles Rebuild = ⊥
 Idles Regenerate = ⊥
 Idles Read = Unit {0}
 Idles Write = Unit {0}
+Idles XdWriteTen = Unit {0}
+Idles XdWriteRead = Unit {0}
 Idles Unknown = ⊥
 
 not-one : (sec : ℕ) → (sec ≡ 3) ⊎ Together sec → eqb sec 1 ≡ false
@@ -64,41 +68,43 @@ module _ (m : List ℕ) (g : Geometry) (a t : ℕ) (h : Target m g a t) (b : ℕ
       let ss = rule 6 w true Good ∷ behind o m g t k (length r) in
       first-append Stop (before o m g t k) ss (acts o m g t k []) ∙ none-decides Stop (before o m g t k) (first Stop ss (acts o m g t k [])) p
 
-  -- READ, WRITE, XPWRITE; the block may be anywhere
-  module _ (flags : ℕ) (z : bitAnd flags 0xE7 ≡ 0) where
+  -- the 10-byte ones; the block may be anywhere
+  module _ (code flags : ℕ) where
     abbrev k : Op → Command
-    k o = tenSaying o flags b 0
+    k o = tenSaying code o flags b 0
 
-    zero-bits : not (eqb (bitAnd flags 0xE7) 0) ≡ false
-    zero-bits = ap (λ (x : ℕ). not (eqb x 0)) z
+    zero-bits : bitAnd flags 0xE7 ≡ 0 → not (eqb (bitAnd flags 0xE7) 0) ≡ false
+    zero-bits z = ap (λ (x : ℕ). not (eqb x 0)) z
 
-    none-sent : not (eqb 0 (0 * g .l)) ≡ false
-    none-sent = ap not (eq-eqb 0 (0 * g .l) (omega arith))
+    none : 0 ≡ 0 * g .l
+    none = omega arith
 
-    ten-idle : (o : Op) → Idles o → decided m a (cdbOf (k o)) [] r ≡ Stop 6 (Cdb 7) Good
-    ten-idle XpWrite i =
-        from-four m g a t h (cdbOf (k XpWrite)) [] r XpWrite (k XpWrite) (ten-says XpWrite flags b 0 tt low (omega arith))
-        ∙ at-six (Cdb 7) XpWrite (k XpWrite) (zero-bits then refl then le-ltb (g .m) 0 (omega arith) then refl then none-sent then tt)
-    ten-idle Read i =
-        from-four m g a t h (cdbOf (k Read)) [] r Read (k Read) (ten-says Read flags b 0 tt low (omega arith))
-        ∙ at-six (Cdb 7) Read (k Read) (zero-bits then refl then refl then refl then tt)
-    ten-idle Write i =
-        from-four m g a t h (cdbOf (k Write)) [] r Write (k Write) (ten-says Write flags b 0 tt low (omega arith))
-        ∙ at-six (Cdb 7) Write (k Write) (zero-bits then refl then refl then none-sent then tt)
-    ten-idle XdWrite i = absurd i
-    ten-idle XdRead i = absurd i
-    ten-idle Rebuild i = absurd i
-    ten-idle Regenerate i = absurd i
-    ten-idle Unknown i = absurd i
+    -- the step reads what is said
+    reads : (o : Op) → opOf code ≡ o → Ten o → decided m a (cdbOf (k o)) [] r ≡ first Stop (commandChecks o m g t (k o) [] (length r)) (acts o m g t (k o) [])
+    reads o q i = from-four m g a t h (cdbOf (k o)) [] r o (k o) (ten-says code o flags b 0 q i low (omega arith))
 
-    pub idle-does : (o : Op) → Idles o → Does m a (cdbOf (tenSaying o flags b 0)) [] r 0 m r
-    idle-does o i = stopped m a (cdbOf (k o)) [] r 6 (Cdb 7) Good _ (ten-idle o i) refl
+    ten-idle : (o : Op) → opOf code ≡ o → Idles o → bitAnd flags (zeroBits o) ≡ 0 → decided m a (cdbOf (k o)) [] r ≡ Stop 6 (Cdb 7) Good
+    ten-idle XpWrite q i z = reads XpWrite q tt ∙ at-six (Cdb 7) XpWrite (k XpWrite) (data-passes g code XpWrite flags b 0 [] z (omega arith) none [] tt)
+    ten-idle Read q i z = reads Read q tt ∙ at-six (Cdb 7) Read (k Read) (zero-bits z then refl then refl then refl then tt)
+    ten-idle Write q i z = reads Write q tt ∙ at-six (Cdb 7) Write (k Write) (zero-bits z then refl then refl then ap not (eq-eqb 0 (0 * g .l) none) then tt)
+    ten-idle XdWriteTen q i z =
+        reads XdWriteTen q tt ∙ at-six (Cdb 7) XdWriteTen (k XdWriteTen) (data-passes g code XdWriteTen flags b 0 [] z (omega arith) none [] tt)
+    ten-idle XdWriteRead q i z =
+        reads XdWriteRead q tt ∙ at-six (Cdb 7) XdWriteRead (k XdWriteRead) (data-passes g code XdWriteRead flags b 0 [] z (omega arith) none [] tt)
+    ten-idle XdWrite q i z = absurd i
+    ten-idle XdRead q i z = absurd i
+    ten-idle Rebuild q i z = absurd i
+    ten-idle Regenerate q i z = absurd i
+    ten-idle Unknown q i z = absurd i
+
+    pub idle-does : (o : Op) → opOf code ≡ o → Idles o → bitAnd flags (zeroBits o) ≡ 0 → Does m a (cdbOf (tenSaying code o flags b 0)) [] r 0 m r
+    idle-does o q i z = stopped m a (cdbOf (k o)) [] r 6 (Cdb 7) Good _ (ten-idle o q i z) refl
 
   -- XDWRITE, to be retained or with a secondary address that is not the target's
   pub xdwrite-idle : (flags mirror ndisc sec : ℕ) → XdwriteByte flags mirror ndisc sec → (a′ c : ℕ) → a′ < 16777216 → c < 4294967296
       → (sec ≡ 3) ⊎ (Together sec × (ndisc ≡ 0) × (isAt t (driveOf m g a′) ≡ false)) → Does m a (xdwriteCdb flags b 0 a′ c) [] r 0 m r
   xdwrite-idle flags mirror ndisc sec z a′ c small high e =
-      let k = sixteenSaying XdWrite flags b 0 a′ c in
+      let k = sixteenSaying 0xC0 XdWrite flags b 0 a′ c in
       stopped m a (cdbOf k) [] r 6 (Cdb 6) Good _
       (from-four m g a t h (cdbOf k) [] r XdWrite k (xdwrite-says flags b 0 a′ c low (omega arith) small high)
       ∙ at-six (Cdb 6) XdWrite k

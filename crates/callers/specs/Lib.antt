@@ -3,8 +3,10 @@ pub mod Lists
 pub mod Does
 pub mod Goes
 pub mod Reads
+pub mod Limited
 pub mod Writes
 pub mod Xdwrites
+pub mod Published
 pub mod Idle
 pub mod Sources
 pub mod Listed

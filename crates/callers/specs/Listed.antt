@@ -62,9 +62,9 @@ resolves B b n count some inside most (inr (e, whole)) =
 module _ (m : List ℕ) (g : Geometry) (t b n count sources flags int : ℕ) (s : List ℕ)
     (z : ListByte flags int) (hd : Headed s sources b) (q : Resolves (g .b) b n count) (with : eqb int 0 ≡ false → count ≡ n)
     (w : Blocks m g (blocks t b n)) (v : Sourced m g (blocks t b n) sources int s)
-    (o : Op) (masked : zeroBits o ≡ 0xF8) where
+    (code : ℕ) (o : Op) (masked : zeroBits o ≡ 0xF8) where
   abbrev k : Command
-  k = listedSaying o flags count (8 + 8 * sources)
+  k = listedSaying code o flags count (8 + 8 * sources)
 
   pub span-is : spanOf t (resolved g k s) ≡ blocks t b n
   unfolding resolvedOf ownOf

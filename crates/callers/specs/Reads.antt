@@ -22,12 +22,13 @@ use Rattle.slots.specs.Change.{released}
 use Rattle.results.specs.Best.{newest-at, newest-used}
 use Rattle.image.specs.Shelf.{shelf-frame}
 use Rattle.command.specs.declared.Op.the-variants.{Read, XdRead}
+use Rattle.command.specs.Command.{opOf}
 use Rattle.meaning.specs.declared.Act.the-variants.{Read as ToRead, XdRead as ToXdRead}
 use Rattle.meaning.specs.declared.Decision.the-variants.{Go}
 use Rattle.sense.specs.declared.Answer.the-variants.{Good}
 use Rattle.meaning.specs.Checks.{isNothing}
 use Rattle.meaning.specs.Allowed.{Blocks, Held, Roomy}
-use Rattle.callers.specs.Bytes.{tenSaying, readCdb, xdreadCdb, ten-says}
+use Rattle.callers.specs.Bytes.{tenSaying, readCdb, xdreadCdb, codes-say, ten-says}
 use Rattle.callers.specs.Does.{blocks, Does, Target}
 use Rattle.callers.specs.Goes.{_then_, does}
 
@@ -42,8 +43,8 @@ module _ (m : List ℕ) (g : Geometry) (a t : ℕ) (h : Target m g a t) (b n : �
       let most = f .placed .ranges .b-high in
       subst (λ (j : ℕ). Does m a (readCdb flags b n) [] r j m (put r 0 (blocksAt m g t b n)))
       (range-long m g t b n f (w .range))
-      (does m g a t h (readCdb flags b n) [] r Read (tenSaying Read flags b n) (ToRead (blocks t b n))
-      (ten-says Read flags b n tt (omega (arith, w .range .range-in)) small)
+      (does m g a t h (readCdb flags b n) [] r Read (tenSaying 0x28 Read flags b n) (ToRead (blocks t b n))
+      (ten-says 0x28 Read flags b n (codes-say .0) tt (omega (arith, w .range .range-in)) small)
       (ap (λ (x : ℕ). not (eqb x 0)) z
       then refl
       then refl
@@ -54,19 +55,19 @@ module _ (m : List ℕ) (g : Geometry) (a t : ℕ) (h : Target m g a t) (b n : �
       then tt)
       refl)
 
-  -- XDREAD: the result of slot i, the newest of the drive at the block, goes to the room's front, and its slot becomes empty
-  pub xdread-does : (i : ℕ) → Held m g (blocks t b n) i
-      → Does m a (xdreadCdb b n) [] r (n * g .l) (released m g i) (put r 0 (part m (dataAt g i) (n * g .l)))
-  xdread-does i w =
+  -- XDREAD, by either code: the result of slot i, the newest of the drive at the block, goes to the room's front, and its slot becomes empty
+  pub xdread-does : (code : ℕ) → opOf code ≡ XdRead → (i : ℕ) → Held m g (blocks t b n) i
+      → Does m a (xdreadCdb code b n) [] r (n * g .l) (released m g i) (put r 0 (part m (dataAt g i) (n * g .l)))
+  xdread-does code said i w =
       let most = f .placed .ranges .b-high in
       let small = f .placed .ranges .m-high in
       let q = newest-at m g t b i (w .answers) in
       let u = newest-used m g t b (h .shelf .slots-ok) i q in
       let at : (slotOf m g i .block .0) ≡ b = eqb-true _ _ (holds _ 2 (q .asked)) in
-      subst (λ (j : ℕ). Does m a (xdreadCdb b n) [] r j (released m g i) (put r 0 (part m (dataAt g i) (n * g .l))))
+      subst (λ (j : ℕ). Does m a (xdreadCdb code b n) [] r j (released m g i) (put r 0 (part m (dataAt g i) (n * g .l))))
       (length-part m (dataAt g i) (n * g .l) (data-in m g i n f (w .slot-in) (w .limited)))
-      (does m g a t h (xdreadCdb b n) [] r XdRead (tenSaying XdRead 0 b n) (ToXdRead (blocks t b n) i)
-      (ten-says XdRead 0 b n tt (omega (arith, u .range-in)) (omega (arith, w .limited)))
+      (does m g a t h (xdreadCdb code b n) [] r XdRead (tenSaying code XdRead 0 b n) (ToXdRead (blocks t b n) i)
+      (ten-says code XdRead 0 b n said tt (omega (arith, u .range-in)) (omega (arith, w .limited)))
       (refl
       then refl
       then refl

@@ -51,10 +51,10 @@ module _ (m : List ℕ) (g : Geometry) (a t : ℕ) (h : Target m g a t) (b n sou
       let q = resolves (g .b) b n count (w .some) (w .range .range-in) most long in
       let e = data-length count with in
       let end = (ap (λ (x : ℕ). not (eqb x 0) && eqb count 0xFFFFFFFF) (z .int-is) ∙ not-last count with) in
-      does-quietly m g a t h (rebuildCdb flags count sources) s r Rebuild (listedSaying Rebuild flags count (8 + 8 * sources)) (ToRebuild (blocks t b n) sources int)
+      does-quietly m g a t h (rebuildCdb flags count sources) s r Rebuild (listedSaying 0xC3 Rebuild flags count (8 + 8 * sources)) (ToRebuild (blocks t b n) sources int)
       (rebuild-says flags count sources (q .small) (omega arith))
-      (all-pass m g t b n count sources flags int s z hd q e w v Rebuild refl _ [] end tt)
-      (ap₂ (λ (x : Span) (y : ℕ). Go (ToRebuild x y (flags / 4 % 2)) Good) (span-is m g t b n count sources flags int s z hd q e w v Rebuild refl) (hd .number)
+      (all-pass m g t b n count sources flags int s z hd q e w v 0xC3 Rebuild refl _ [] end tt)
+      (ap₂ (λ (x : Span) (y : ℕ). Go (ToRebuild x y (flags / 4 % 2)) Good) (span-is m g t b n count sources flags int s z hd q e w v 0xC3 Rebuild refl) (hd .number)
       ∙ ap (λ (x : ℕ). Go (ToRebuild (blocks t b n) sources x) Good) (z .int-is))
       refl
 
@@ -65,10 +65,10 @@ module _ (m : List ℕ) (g : Geometry) (a t : ℕ) (h : Target m g a t) (b n sou
   regenerate-does small i u =
       let q = resolves (g .b) b n n (w .some) (w .range .range-in) most (inl refl) in
       let e : (eqb int 0 ≡ false → n ≡ n) = (λ x. refl) in
-      does-quietly m g a t h (regenerateCdb flags n sources) s r Regenerate (listedSaying Regenerate flags n (8 + 8 * sources)) (ToRegenerate (blocks t b n) sources int i)
+      does-quietly m g a t h (regenerateCdb flags n sources) s r Regenerate (listedSaying 0xC4 Regenerate flags n (8 + 8 * sources)) (ToRegenerate (blocks t b n) sources int i)
       (regenerate-says flags n sources (q .small) (omega arith))
-      (all-pass m g t b n n sources flags int s z hd q e w v Regenerate refl (ltb (g .m) n) (busy Regenerate m g (listedSaying Regenerate flags n (8 + 8 * sources)))
+      (all-pass m g t b n n sources flags int s z hd q e w v 0xC4 Regenerate refl (ltb (g .m) n) (busy Regenerate m g (listedSaying 0xC4 Regenerate flags n (8 + 8 * sources)))
       (le-ltb (g .m) n small) (ap isNothing (u .takes) then tt))
-      (ap₂ (λ (x : Span) (y : ℕ). Go (ToRegenerate x y (flags / 4 % 2) (index (emptySlot m g))) Good) (span-is m g t b n n sources flags int s z hd q e w v Regenerate refl) (hd .number)
+      (ap₂ (λ (x : Span) (y : ℕ). Go (ToRegenerate x y (flags / 4 % 2) (index (emptySlot m g))) Good) (span-is m g t b n n sources flags int s z hd q e w v 0xC4 Regenerate refl) (hd .number)
       ∙ ap₂ (λ (x : ℕ) (y : Found). Go (ToRegenerate (blocks t b n) sources x (index y)) Good) (z .int-is) (u .takes))
       refl

@@ -1,4 +1,4 @@
--- For a caller that knows the retained results by age and not their slots: XDWRITE and REGENERATE retain one more where one more fits, and
+-- For a caller that knows the retained results by age and not their slots: either XDWRITE and REGENERATE retain one more where one more fits, and
 -- XDREAD hands out the newest at its block. Assumes nothing.
 use Prim.Native.Nat.{ℕ, _*_, _<_}
 use native.Mathlib.Omega.{arith}
@@ -20,6 +20,8 @@ use Rattle.results.specs.Full.{full}
 use Rattle.results.specs.Newest.{answers, newest-result, newest-missing, newest-goes}
 use Rattle.results.specs.Results.{Result, results, resultAt}
 use Rattle.image.specs.Shelf.{Shelf, shelf-frame}
+use Rattle.command.specs.declared.Op.the-variants.{XdRead}
+use Rattle.command.specs.Command.{opOf}
 use Rattle.meaning.specs.declared.Span.{Span}
 use Rattle.meaning.specs.declared.Act.the-variants.{Retain, Regenerate}
 use Rattle.meaning.specs.Acts.{stored, resultOf, slotStores, dataStores, gathered}
@@ -27,11 +29,12 @@ use Rattle.meaning.specs.Allowed.{Blocks, Filled, Roomy, Limited, Held, Free, e
 use Rattle.licence.specs.Each.{held-at}
 use Rattle.demands.specs.Leaves.{resultIn}
 use Rattle.demands.specs.Retained.{results-after}
-use Rattle.callers.specs.Bytes.{xdreadCdb, xdwriteCdb, regenerateCdb}
+use Rattle.callers.specs.Bytes.{xdreadCdb, xdwriteTenCdb, xdwriteCdb, regenerateCdb}
 use Rattle.callers.specs.Lists.{Headed}
 use Rattle.callers.specs.Does.{blocks, Does, Target}
 use Rattle.callers.specs.Reads.{xdread-does}
 use Rattle.callers.specs.Xdwrites.{XdwriteByte, retained-does}
+use Rattle.callers.specs.Published.{DisableByte, xdwrite-ten-does}
 use Rattle.callers.specs.Listed.{ListByte}
 use Rattle.callers.specs.Rebuilds.{regenerate-does}
 
@@ -67,14 +70,28 @@ module _ (m : List ℕ) (g : Geometry) (a t : ℕ) (h : Target m g a t) (b n : �
     abbrev res : List ℕ
     res = resultOf m g x mirror s
 
+    kept : Filled g x s → results (stored m (dataStores g x ndisc s ++ slotStores m g (f .slot) 1 x res)) g ≡ resultIn 1 x res ∷ results m g
+    kept e = results-after m g (h .shelf) s 0 (Retain x (f .slot) mirror ndisc) (w, e, most, f .free)
+
     pub xdwrite-retains : Filled g x s → (flags : ℕ) → XdwriteByte flags mirror ndisc 3 → (a′ c : ℕ) → a′ < 16777216 → c < 4294967296
         → Retains m g a (xdwriteCdb flags b n a′ c) s r (λ i. stored m (dataStores g x ndisc s ++ slotStores m g i 1 x res)) (resultIn 1 x res)
     xdwrite-retains e flags z a′ c la lc =
         record {
           slot = f .slot;
           does = retained-does m g a t h b n s r w e most flags mirror ndisc z a′ c la lc (f .slot) (f .free);
-          newest = results-after m g (h .shelf) s 0 (Retain x (f .slot) mirror ndisc) (w, e, most, f .free);
+          newest = kept e;
         }
+
+  -- "50h always retains."
+  pub xdwrite-ten-retains : Filled g x s → (flags disable : ℕ) → DisableByte flags disable
+      → Retains m g a (xdwriteTenCdb flags b n) s r (λ i. stored m (dataStores g x disable s ++ slotStores m g i 1 x (resultOf m g x 0 s)))
+      (resultIn 1 x (resultOf m g x 0 s))
+  xdwrite-ten-retains e flags disable z =
+      record {
+        slot = f .slot;
+        does = xdwrite-ten-does m g a t h b n s r w e most flags disable z (f .slot) (f .free);
+        newest = kept 0 disable e;
+      }
 
   -- "REGENERATE adds the target's own blocks and retains the XOR."
   module _ (sources flags int : ℕ) where
@@ -108,23 +125,23 @@ module _ (m : List ℕ) (g : Geometry) (t b : ℕ) (z : Result) where
           record { slot = i; held = held-at m g h (blocks t b (z .len)) i e (ap (λ (x : Result). x .len) s); its = s }
       by Nothing e = absurd (Option·none-ne-some z (sym (newest-missing m g (h .slots-ok) t b e) ∙ q))
 
--- XDREAD hands out the result z, and it alone is no longer retained
-pub record Handed (m : List ℕ) (g : Geometry) (a t b : ℕ) (z : Result) (r : List ℕ) : Type 0 where
+-- XDREAD, by its code, hands out the result z, and it alone is no longer retained
+pub record Handed (m : List ℕ) (g : Geometry) (code a t b : ℕ) (z : Result) (r : List ℕ) : Type 0 where
   pub slot : ℕ
-  pub does : Does m a (xdreadCdb b (z .len)) [] r (z .len * g .l) (released m g slot) (put r 0 (z .bytes))
+  pub does : Does m a (xdreadCdb code b (z .len)) [] r (z .len * g .l) (released m g slot) (put r 0 (z .bytes))
   pub others : results (released m g slot) g ≡ sansFirst (answers t b) (results m g)
 
-pub xdread-hands : (m : List ℕ) (g : Geometry) (a t : ℕ) → Target m g a t → (b : ℕ) (z : Result) → firstOf (answers t b) (results m g) ≡ some z
-    → (r : List ℕ) → Roomy g (blocks t b (z .len)) (length r) → Handed m g a t b z r
+pub xdread-hands : (m : List ℕ) (g : Geometry) (code a t : ℕ) → opOf code ≡ XdRead → Target m g a t → (b : ℕ) (z : Result) → firstOf (answers t b) (results m g) ≡ some z
+    → (r : List ℕ) → Roomy g (blocks t b (z .len)) (length r) → Handed m g code a t b z r
 unfolding resultAt
-xdread-hands m g a t h b z q r fits =
+xdread-hands m g code a t said h b z q r fits =
     let w = newest-held m g t b z (h .shelf) q in
     let i = w .slot in
-    let d = xdread-does m g a t h b (z .len) r fits i (w .held) in
+    let d = xdread-does m g a t h b (z .len) r fits code said i (w .held) in
     let e : part m (dataAt g i) (z .len * g .l) ≡ z .bytes =
     ap (λ (k : ℕ). part m (dataAt g i) (k * g .l)) (sym (w .held .same-len)) ∙ ap (λ (x : Result). x .bytes) (w .its) in
     record {
       slot = i;
-      does = subst (λ (x : List ℕ). Does m a (xdreadCdb b (z .len)) [] r (z .len * g .l) (released m g i) (put r 0 x)) e d;
+      does = subst (λ (x : List ℕ). Does m a (xdreadCdb code b (z .len)) [] r (z .len * g .l) (released m g i) (put r 0 x)) e d;
       others = newest-goes m g (h .shelf .slots-ok) t b (shelf-frame m g (h .shelf)) i (w .held .answers);
     }

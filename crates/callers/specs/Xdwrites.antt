@@ -71,7 +71,7 @@ module _ (m : List ℕ) (g : Geometry) (a t : ℕ) (h : Target m g a t) (b n : �
 
     pub coupled-does : Does m a (xdwriteCdb flags b n a′ c) s r 0 (stored m (coupled m g (blocks t b n) (blocks u c n) mirror s)) r
     coupled-does =
-        does-quietly m g a t h (xdwriteCdb flags b n a′ c) s r XdWrite (sixteenSaying XdWrite flags b n a′ c) (Couple (blocks t b n) (blocks u c n) mirror)
+        does-quietly m g a t h (xdwriteCdb flags b n a′ c) s r XdWrite (sixteenSaying 0xC0 XdWrite flags b n a′ c) (Couple (blocks t b n) (blocks u c n) mirror)
         (xdwrite-says flags b n a′ c (low b (w .range .range-in)) few small (low c (v .range .range-in)))
         (ap (λ (x : ℕ). not (eqb x 0)) (z .no-other)
         then not-one
@@ -107,7 +107,7 @@ module _ (m : List ℕ) (g : Geometry) (a t : ℕ) (h : Target m g a t) (b n : �
   retained-does flags mirror ndisc z a′ c la lc i v =
       let three : eqb (flags / 2 % 4) 3 ≡ true = ap (λ (x : ℕ). eqb x 3) (z .sec-is) in
       let spared : (x : Bool) → (not (eqb (flags / 2 % 4) 3) && x) ≡ false = (λ x. ap (λ (y : Bool). not y && x) three) in
-      does-quietly m g a t h (xdwriteCdb flags b n a′ c) s r XdWrite (sixteenSaying XdWrite flags b n a′ c) (Retain (blocks t b n) i mirror ndisc)
+      does-quietly m g a t h (xdwriteCdb flags b n a′ c) s r XdWrite (sixteenSaying 0xC0 XdWrite flags b n a′ c) (Retain (blocks t b n) i mirror ndisc)
       (xdwrite-says flags b n a′ c (low b (w .range .range-in)) few la lc)
       (ap (λ (x : ℕ). not (eqb x 0)) (z .no-other)
       then ap (λ (x : ℕ). eqb x 1) (z .sec-is)

@@ -1,4 +1,4 @@
--- 01, "Commands": what the bytes of a CDB and of a parameter list say. Nothing is refused here. Assumes nothing.
+-- 01, "Commands", and 02, A1: what the bytes of a CDB and of a parameter list say. Nothing is refused here. Assumes nothing.
 use Prim.Native.Nat.{ℕ, _+_, _-_, _*_, _/_, _%_, _<_}
 use mathlib.Core.List.{List, [], _∷_}
 use mathlib.Core.Bool.{cond}
@@ -8,13 +8,13 @@ use lib.Dec.{leb, eqb}
 use Rattle.octets.specs.Part.{part}
 use Rattle.octets.specs.Number.{num, be}
 use Rattle.command.specs.declared.Op.{Op}
-use Rattle.command.specs.declared.Op.the-variants.{XdWrite, XpWrite, XdRead, Rebuild, Regenerate, Read, Write, Unknown}
+use Rattle.command.specs.declared.Op.the-variants.{XdWrite, XpWrite, XdRead, Rebuild, Regenerate, Read, Write, XdWriteTen, XdWriteRead, Unknown}
 use Rattle.command.specs.declared.Command.{Command}
 use Rattle.command.specs.declared.Source.{Source}
 
--- "Code | Command"
-unfoldable pub opOf : ℕ → Op
-opOf code =
+-- 01: "Code | Command"
+abbrev pub opOf1994 : ℕ → Op
+opOf1994 code =
     cond (eqb code 0xC0) XdWrite
     (cond (eqb code 0xC1) XpWrite
     (cond (eqb code 0xC2) XdRead
@@ -23,6 +23,15 @@ opOf code =
     (cond (eqb code 0x28) Read
     (cond (eqb code 0x2A) Write
     Unknown))))))
+
+-- A1: "XDWRITE(10) 50h, XPWRITE(10) 51h, XDREAD(10) 52h and XDWRITEREAD(10) 53h", "beside ours"; 51h and 52h do what XPWRITE and XDREAD do
+unfoldable pub opOf : ℕ → Op
+opOf code =
+    cond (eqb code 0x50) XdWriteTen
+    (cond (eqb code 0x51) XpWrite
+    (cond (eqb code 0x52) XdRead
+    (cond (eqb code 0x53) XdWriteRead
+    (opOf1994 code))))
 
 -- "Length"
 abbrev pub sizeOf : Op → ℕ
@@ -33,10 +42,13 @@ sizeOf Rebuild = 10
 sizeOf Regenerate = 10
 sizeOf Read = 10
 sizeOf Write = 10
+sizeOf XdWriteTen = 10
+sizeOf XdWriteRead = 10
 sizeOf Unknown = 0
 
 -- "XDWRITE byte 1: bit 6 Mirror, 5 NDisc, 4 DPO, 3 FUA, 2-1 Sec Ctl. REBUILD and REGENERATE byte 1: bit 2 Int Data, 1-0 Sec Ctl. XPWRITE,
--- READ and WRITE: bit 4 DPO, 3 FUA. All other bits of byte 1 .. must be zero.": those others
+-- READ and WRITE: bit 4 DPO, 3 FUA. All other bits of byte 1 .. must be zero.": those others. A1: "Byte 1 has bit 4 DPO and 3 FUA (not
+-- 52h), 2 DISABLE WRITE (50h, 53h)."; "other bits of byte 1 are zero"
 abbrev pub zeroBits : Op → ℕ
 zeroBits XdWrite = 0x81
 zeroBits XpWrite = 0xE7
@@ -45,12 +57,15 @@ zeroBits Rebuild = 0xF8
 zeroBits Regenerate = 0xF8
 zeroBits Read = 0xE7
 zeroBits Write = 0xE7
+zeroBits XdWriteTen = 0xE3
+zeroBits XdWriteRead = 0xE3
 zeroBits Unknown = 0
 
 -- "block 2-5, length 6-7, secondary address 8-10, secondary block 11-14"
 unfoldable pub sixteenOf : Op → List ℕ → Command
 sixteenOf o c =
     record {
+      code = getD c 0 0;
       op = o;
       flags = getD c 1 0;
       six = 0;
@@ -62,10 +77,11 @@ sixteenOf o c =
       spot = record { 0 = be 4 c 11 };
     }
 
--- "block 2-5, length 7-8"
+-- "block 2-5, length 7-8"; A1: "block in bytes 2-5, length in 7-8"
 unfoldable pub tenOf : Op → List ℕ → Command
 tenOf o c =
     record {
+      code = getD c 0 0;
       op = o;
       flags = getD c 1 0;
       six = getD c 6 0;
@@ -81,6 +97,7 @@ tenOf o c =
 unfoldable pub listedOf : Op → List ℕ → Command
 listedOf o c =
     record {
+      code = getD c 0 0;
       op = o;
       flags = getD c 1 0;
       six = getD c 6 0;
@@ -101,6 +118,8 @@ commandOf Rebuild c = listedOf Rebuild c
 commandOf Regenerate c = listedOf Regenerate c
 commandOf Read c = tenOf Read c
 commandOf Write c = tenOf Write c
+commandOf XdWriteTen c = tenOf XdWriteTen c
+commandOf XdWriteRead c = tenOf XdWriteRead c
 commandOf Unknown c = tenOf Unknown c
 
 -- XDWRITE: "bit 6 Mirror, 5 NDisc, .., 2-1 Sec Ctl"
@@ -120,8 +139,13 @@ intOf k = k .flags / 4 % 2
 abbrev pub listSecOf : Command → ℕ
 listSecOf k = k .flags % 4
 
+-- 50h and 53h: "2 DISABLE WRITE"
+abbrev pub disableOf : Command → ℕ
+disableOf k = k .flags / 4 % 2
+
 -- each field fits its bytes
 pub record Fits (k : Command) : Type 0 where
+  pub code-small : k .code < 256
   pub flags-small : k .flags < 256
   pub six-small : k .six < 256
   pub control-small : k .control < 256
@@ -135,6 +159,7 @@ pub record Fits (k : Command) : Type 0 where
 unfoldable pub ownOf : Command → List ℕ → Command
 ownOf k s =
     record {
+      code = k .code;
       op = k .op;
       flags = k .flags;
       six = k .six;
@@ -157,6 +182,7 @@ resolvedCount n b B = cond (eqb n 0xFFFFFFFF) (cond (leb B b) n (B - b)) n
 unfoldable pub resolvedOf : Command → ℕ → Command
 resolvedOf k B =
     record {
+      code = k .code;
       op = k .op;
       flags = k .flags;
       six = k .six;

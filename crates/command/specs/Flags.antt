@@ -1,4 +1,4 @@
--- The masks of byte 1 leave just the bits that 01 names. Assumes nothing.
+-- The masks of byte 1 leave just the bits that 01 and A1 name. Assumes nothing.
 use Prim.Native.Nat.{ℕ, _+_, _*_, _/_, _%_, _<_}
 use mathlib.Core.Bool.{Bool, true, false, Bool·beq}
 use mathlib.Core.Path.{_≡_, refl, sym}
@@ -6,10 +6,10 @@ use lib.Dec.{eqb}
 use lib.Bits.{bitAnd}
 use Rattle.rules.specs.All.{allBelow, all-at}
 use Rattle.command.specs.declared.Op.{Op}
-use Rattle.command.specs.declared.Op.the-variants.{XdWrite, XpWrite, XdRead, Rebuild, Regenerate, Read, Write, Unknown}
+use Rattle.command.specs.declared.Op.the-variants.{XdWrite, XpWrite, XdRead, Rebuild, Regenerate, Read, Write, XdWriteTen, XdWriteRead, Unknown}
 use Rattle.command.specs.Command.{zeroBits}
 
--- the part of byte f in the bits that 01 names; of an unknown code nothing is asked
+-- the part of byte f in the bits that 01 or A1 names; of an unknown code nothing is asked
 abbrev pub namedBits : Op → ℕ → ℕ
 namedBits XdWrite f = f / 64 % 2 * 64 + f / 32 % 2 * 32 + f / 16 % 2 * 16 + f / 8 % 2 * 8 + f / 2 % 4 * 2
 namedBits XpWrite f = f / 16 % 2 * 16 + f / 8 % 2 * 8
@@ -18,6 +18,8 @@ namedBits Rebuild f = f / 4 % 2 * 4 + f % 4
 namedBits Regenerate f = f / 4 % 2 * 4 + f % 4
 namedBits Read f = f / 16 % 2 * 16 + f / 8 % 2 * 8
 namedBits Write f = f / 16 % 2 * 16 + f / 8 % 2 * 8
+namedBits XdWriteTen f = f / 16 % 2 * 16 + f / 8 % 2 * 8 + f / 4 % 2 * 4
+namedBits XdWriteRead f = f / 16 % 2 * 16 + f / 8 % 2 * 8 + f / 4 % 2 * 4
 namedBits Unknown f = f
 
 beq-same : (a b : Bool) → Bool·beq a b ≡ true → a ≡ b
@@ -38,6 +40,8 @@ each-byte Rebuild = refl
 each-byte Regenerate = refl
 each-byte Read = refl
 each-byte Write = refl
+each-byte XdWriteTen = refl
+each-byte XdWriteRead = refl
 each-byte Unknown = refl
 
 -- "All other bits of byte 1 .. must be zero": the byte is its named bits

@@ -7,7 +7,7 @@ ghost use mathlib.Core.Path.{_≡_};
 ghost use Prim.Native.Nat.{_+_, _*_, _<_, _≤_};
 ghost use lib.ListN.{length};
 ghost use Rattle.geometry.specs.Frame.{InRange};
-ghost use Rattle.command.specs.Command.{opOf, sizeOf, zeroBits, sixteenOf, tenOf, listedOf, commandOf, mirrorOf, ndiscOf, secOf, intOf, listSecOf, Fits, ownOf, sourceOf, resolvedOf, listBytes};
+ghost use Rattle.command.specs.Command.{opOf1994, opOf, sizeOf, zeroBits, sixteenOf, tenOf, listedOf, commandOf, mirrorOf, ndiscOf, secOf, intOf, listSecOf, disableOf, Fits, ownOf, sourceOf, resolvedOf, listBytes};
 
 pub enum Op {
     XdWrite,
@@ -17,11 +17,16 @@ pub enum Op {
     Regenerate,
     Read,
     Write,
+    // XDWRITE(10) and XDWRITEREAD(10)
+    XdWriteTen,
+    XdWriteRead,
     Unknown,
 }
 
 // What a CDB says. A field that the command lacks is 0.
 pub struct Command {
+    // byte 0 as it was sent: two codes say XPWRITE, two say XDREAD
+    pub code: usize,
     pub op: Op,
     // byte 1, byte 6 of a 10-byte command, and the last byte, each whole
     pub flags: usize,
@@ -43,8 +48,27 @@ pub struct Source {
     pub block: Block,
 }
 
+// The published codes, and then those of 1994.
 pub fn op_of(code: usize) -> Op
     ensures { λ r. ⌜ r ≡ opOf code ⌝ }
+{
+    if code == 0x50 {
+        return Op::XdWriteTen;
+    }
+    if code == 0x51 {
+        return Op::XpWrite;
+    }
+    if code == 0x52 {
+        return Op::XdRead;
+    }
+    if code == 0x53 {
+        return Op::XdWriteRead;
+    }
+    op_of_1994(code)
+}
+
+fn op_of_1994(code: usize) -> Op
+    ensures { λ r. ⌜ r ≡ opOf1994 code ⌝ }
 {
     if code == 0xC0 {
         return Op::XdWrite;
@@ -82,6 +106,8 @@ pub fn size_of(op: Op) -> usize
         Op::Regenerate => 10,
         Op::Read => 10,
         Op::Write => 10,
+        Op::XdWriteTen => 10,
+        Op::XdWriteRead => 10,
         Op::Unknown => 0,
     }
 }
@@ -98,6 +124,8 @@ pub fn zero_bits(op: Op) -> usize
         Op::Regenerate => 0xF8,
         Op::Read => 0xE7,
         Op::Write => 0xE7,
+        Op::XdWriteTen => 0xE3,
+        Op::XdWriteRead => 0xE3,
         Op::Unknown => 0,
     }
 }
@@ -116,6 +144,8 @@ impl Command {
             Op::Regenerate => Command::listed(op, cdb),
             Op::Read => Command::ten(op, cdb),
             Op::Write => Command::ten(op, cdb),
+            Op::XdWriteTen => Command::ten(op, cdb),
+            Op::XdWriteRead => Command::ten(op, cdb),
             Op::Unknown => Command::ten(op, cdb),
         }
     }
@@ -126,6 +156,7 @@ impl Command {
         ensures { λ r. ⌜ (r ≡ sixteenOf op (now (cdb .entry))) × Fits r ⌝ }
     {
         Command {
+            code: octets::byte(cdb, 0),
             op: op,
             flags: octets::byte(cdb, 1),
             six: 0,
@@ -144,6 +175,7 @@ impl Command {
         ensures { λ r. ⌜ (r ≡ tenOf op (now (cdb .entry))) × Fits r ⌝ }
     {
         Command {
+            code: octets::byte(cdb, 0),
             op: op,
             flags: octets::byte(cdb, 1),
             six: octets::byte(cdb, 6),
@@ -162,6 +194,7 @@ impl Command {
         ensures { λ r. ⌜ (r ≡ listedOf op (now (cdb .entry))) × Fits r ⌝ }
     {
         Command {
+            code: octets::byte(cdb, 0),
             op: op,
             flags: octets::byte(cdb, 1),
             six: octets::byte(cdb, 6),
@@ -204,6 +237,13 @@ impl Command {
         ensures { λ r. ⌜ (r ≡ listSecOf self) × (r < 4) ⌝ }
     {
         self.flags % 4
+    }
+
+    // DISABLE WRITE of 50h and 53h
+    pub fn disable(self) -> usize
+        ensures { λ r. ⌜ (r ≡ disableOf self) × (r < 2) ⌝ }
+    {
+        self.flags / 4 % 2
     }
 
     // The command at the block that its list names.

@@ -13,15 +13,15 @@ use Rattle.geometry.specs.declared.Geometry.{Geometry}
 use Rattle.drives.specs.Table.{failed}
 use Rattle.sense.specs.declared.Answer.the-variants.{TargetFailed, BadField}
 use Rattle.command.specs.declared.Op.{Op}
-use Rattle.command.specs.declared.Op.the-variants.{XdWrite, XpWrite, XdRead, Rebuild, Regenerate, Read, Write, Unknown}
+use Rattle.command.specs.declared.Op.the-variants.{XdWrite, XpWrite, XdRead, Rebuild, Regenerate, Read, Write, XdWriteTen, XdWriteRead, Unknown}
 use Rattle.command.specs.declared.Command.{Command}
 use Rattle.command.specs.Command.{opOf, sizeOf, zeroBits, commandOf, secOf, ownOf, resolvedOf}
 use Rattle.command.specs.Lossless.{command-op}
 use Rattle.meaning.specs.declared.Seen.the-variants.{Cdb, Drive}
 use Rattle.meaning.specs.declared.Decision.the-variants.{Stop}
 use Rattle.meaning.specs.Checks.{decideOf}
-use Rattle.single.specs.Stages.{roomyOf, plainStage, readOf, writeOf, xpwriteOf, xdreadOf, matchedOf, answeredOf}
-use Rattle.double.specs.Stages.{retainedOf, secondedOf, reachedOf, settledOf, limitedOf, xdwriteOf}
+use Rattle.single.specs.Stages.{roomyOf, plainStage, cappedStage, readOf, writeOf, xpwriteOf, xdreadOf, matchedOf, answeredOf, retainedOf, xdwriteTenOf, xdwritereadOf}
+use Rattle.double.specs.Stages.{secondedOf, reachedOf, settledOf, limitedOf, xdwriteOf}
 use Rattle.several.specs.Stages.{faultOr, rebuiltOf, gatheredOf, regeneratedOf, placedOf, lengthOf, ownedOf, headedOf, listSizedOf, countedOf, fieldsOf, rebuildOf, regenerateOf}
 use Rattle.decide.specs.Called.{Addressed, addressed-found}
 use Rattle.decide.specs.Stages.{eachOf, flaggedOf, checkedOf, sizedOf, openedOf}
@@ -42,7 +42,7 @@ module _ (m : List ℕ) (g : Geometry) (t : ℕ) (k : Command) (s : List ℕ) (r
   as-regenerate = refl
 
   pub joined : (o : Op) → (sizeOf o ≡ 0 → ⊥) → flaggedOf o m g t k s r ≡ checkedOf o m g t k s r
-  unfolding flaggedOf checkedOf readOf writeOf xpwriteOf plainStage roomyOf xdreadOf matchedOf answeredOf
+  unfolding flaggedOf checkedOf readOf writeOf xpwriteOf cappedStage plainStage roomyOf xdreadOf matchedOf answeredOf xdwriteTenOf xdwritereadOf retainedOf
   joined XdWrite h = as-xdwrite
   joined XpWrite h = refl
   joined XdRead h = refl
@@ -50,6 +50,8 @@ module _ (m : List ℕ) (g : Geometry) (t : ℕ) (k : Command) (s : List ℕ) (r
   joined Regenerate h = as-regenerate
   joined Read h = refl
   joined Write h = refl
+  joined XdWriteTen h = refl
+  joined XdWriteRead h = refl
   joined Unknown h = absurd (h refl)
 
 -- ---- where the tests of a stage have passed

@@ -8,14 +8,14 @@ use Rattle.rules.specs.Rule.{rule, first}
 use Rattle.geometry.specs.declared.Geometry.{Geometry}
 use Rattle.sense.specs.declared.Answer.the-variants.{BadCdb, UnknownCode}
 use Rattle.command.specs.declared.Op.{Op}
-use Rattle.command.specs.declared.Op.the-variants.{XdWrite, XpWrite, XdRead, Rebuild, Regenerate, Read, Write, Unknown}
+use Rattle.command.specs.declared.Op.the-variants.{XdWrite, XpWrite, XdRead, Rebuild, Regenerate, Read, Write, XdWriteTen, XdWriteRead, Unknown}
 use Rattle.command.specs.declared.Command.{Command}
 use Rattle.command.specs.Command.{opOf, sizeOf, commandOf}
 use Rattle.meaning.specs.declared.Seen.the-variants.{Dash, Cdb}
 use Rattle.meaning.specs.declared.Decision.{Decision}
 use Rattle.meaning.specs.declared.Decision.the-variants.{Stop}
 use Rattle.meaning.specs.Checks.{isUnknown, known, zeroFlags, commandChecks, acts}
-use Rattle.single.specs.Stages.{readOf, writeOf, xpwriteOf, xdreadOf}
+use Rattle.single.specs.Stages.{readOf, writeOf, xpwriteOf, xdreadOf, xdwriteTenOf, xdwritereadOf}
 use Rattle.double.specs.Stages.{xdwriteOf}
 use Rattle.several.specs.Stages.{rebuildOf, regenerateOf}
 
@@ -28,6 +28,8 @@ eachOf Rebuild m g t k s r = rebuildOf m g t k s
 eachOf Regenerate m g t k s r = regenerateOf m g t k s
 eachOf Read m g t k s r = readOf g t k s r
 eachOf Write m g t k s r = writeOf g t k s
+eachOf XdWriteTen m g t k s r = xdwriteTenOf m g t k s
+eachOf XdWriteRead m g t k s r = xdwritereadOf g t k s r
 eachOf Unknown m g t k s r = Stop 2 (Cdb 0) UnknownCode
 
 unfoldable pub flaggedOf : Op → List ℕ → Geometry → ℕ → Command → List ℕ → ℕ → Decision

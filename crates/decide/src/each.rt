@@ -43,6 +43,8 @@ fn each(image: &[u8], g: Geometry, t: usize, k: Command, sent: &[u8], room: usiz
         Op::Regenerate => several::regenerate(image, g, t, k, sent),
         Op::Read => single::read(g, t, k, sent, room),
         Op::Write => single::write(g, t, k, sent),
+        Op::XdWriteTen => single::xdwrite_ten(image, g, t, k, sent),
+        Op::XdWriteRead => single::xdwriteread(g, t, k, sent, room),
         Op::Unknown => Decision::Stop(2, Seen::Cdb(0), Answer::UnknownCode),
     }
 }

@@ -21,8 +21,9 @@ use Rattle.image.specs.Shelf.{Shelf, shelf-frame}
 use Rattle.image.specs.Keeps.{shelf-written}
 use Rattle.meaning.specs.declared.Span.{Span}
 use Rattle.meaning.specs.declared.Act.{Act}
-use Rattle.meaning.specs.declared.Act.the-variants.{Read, Write, XpWrite, XdRead, Couple, Retain, Rebuild, Regenerate}
+use Rattle.meaning.specs.declared.Act.the-variants.{Read, Write, XpWrite, XdRead, Couple, Retain, Rebuild, Regenerate, XdWriteRead}
 use Rattle.meaning.specs.Acts.{spanAt, blocksOf, resultOf, passedOn, gathered, leaves}
+use Rattle.meaning.specs.Stores.{stored-alone}
 use Rattle.meaning.specs.Allowed.{Blocks, Filled, Allowed}
 use Rattle.meaning.specs.Lengths.{span-after-media, length-laid, length-blocks, length-result, length-gathered}
 use Rattle.demands.specs.Leaves.{resultIn, stored-result, retain-leaves}
@@ -42,6 +43,7 @@ Beside g (Couple x y mirror) a n = OffSpan g x a n × OffSpan g y a n
 Beside g (Retain x i mirror ndisc) a n = Away g a n × (eqb ndisc 0 ≡ true → OffSpan g x a n)
 Beside g (Rebuild x k int) a n = OffSpan g x a n
 Beside g (Regenerate x k int i) a n = Away g a n
+Beside g (XdWriteRead x disable) a n = eqb disable 0 ≡ true → OffSpan g x a n
 
 -- no act writes before the slots
 module _ (g : Geometry) (p : Placed g) where
@@ -57,6 +59,7 @@ module _ (g : Geometry) (p : Placed g) where
   front-beside (Retain x i mirror ndisc) = (inl (omega arith), λ e. before x)
   front-beside (Rebuild x k int) = before x
   front-beside (Regenerate x k int i) = inl (omega arith)
+  front-beside (XdWriteRead x disable) = λ e. before x
 
 module _ (s : List ℕ) (g : Geometry) (h : Shelf s g) (sent : List ℕ) (a n : ℕ) where
   -- a write as long as the span
@@ -103,3 +106,5 @@ module _ (s : List ℕ) (g : Geometry) (h : Shelf s g) (sent : List ℕ) (a n : 
       ap (λ (t : List ℕ). part t a n) (stored-result s g i 2 x bytes (al .3 .takes))
       ∙ retain-away s g (shelf-frame s g h) (h .slots-ok) i (al .3 .takes) (resultIn 2 x bytes)
       (regenerated-sound s g h sent x k int (al .0) (al .1) (al .2)) a n w
+  leaves-beside room (XdWriteRead x disable) al w =
+      ap (λ (t : List ℕ). part t a n) (stored-alone s g x disable sent) ∙ data-beside x (al .1) (eqb disable 0) w

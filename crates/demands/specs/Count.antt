@@ -12,13 +12,14 @@ use Rattle.geometry.specs.Header.{geometryOf, dataAt}
 use Rattle.geometry.specs.Frame.{Framed}
 use Rattle.geometry.specs.Places.{data-in}
 use Rattle.image.specs.Shelf.{shelf-frame}
+use Rattle.meaning.specs.declared.Span.{Span}
 use Rattle.meaning.specs.declared.Act.{Act}
-use Rattle.meaning.specs.declared.Act.the-variants.{Read, Write, XpWrite, XdRead, Couple, Retain, Rebuild, Regenerate}
+use Rattle.meaning.specs.declared.Act.the-variants.{Read, Write, XpWrite, XdRead, Couple, Retain, Rebuild, Regenerate, XdWriteRead}
 use Rattle.meaning.specs.declared.Decision.{Decision}
 use Rattle.meaning.specs.declared.Decision.the-variants.{Stop, Go}
 use Rattle.meaning.specs.Acts.{hands}
-use Rattle.meaning.specs.Allowed.{Allowed}
-use Rattle.meaning.specs.Lengths.{length-blocks}
+use Rattle.meaning.specs.Allowed.{Blocks, Allowed}
+use Rattle.meaning.specs.Lengths.{length-blocks, length-result}
 use Rattle.meaning.specs.Step.{decided, outcomeAfter, stepOutcome}
 use Rattle.licence.specs.Granted.{granted}
 
@@ -27,11 +28,13 @@ module _ (s : List ℕ) (g : Geometry) (f : Framed s g) (sent : List ℕ) (room 
   small : (n : ℕ) → n ≤ 65536 → n * g .l < 4294967296
   small n h = let p : n * g .l ≤ 65536 * 4096 = mul-le-mul h (f .placed .ranges .l-high) in omega arith
 
-  pub hands-small : (act : Act) → Allowed s g sent room act → length (hands s g act) < 4294967296
+  blocks-small : (x : Span) → Blocks s g x → x .count * g .l < 4294967296
+  blocks-small x b = small (x .count) (omega (arith, b .range .range-in, f .placed .ranges .b-high))
+
+  pub hands-small : (act : Act) → Allowed s g sent room act → length (hands s g sent act) < 4294967296
   hands-small (Read x) a =
       let n = length-blocks s g f x (a .0) in
-      let k = small (x .count) (omega (arith, a .0 .range .range-in, f .placed .ranges .b-high)) in
-      omega arith
+      omega (arith, blocks-small x (a .0))
   hands-small (Write x) a = lit< tt
   hands-small (XpWrite x) a = lit< tt
   hands-small (XdRead x i) a =
@@ -42,12 +45,15 @@ module _ (s : List ℕ) (g : Geometry) (f : Framed s g) (sent : List ℕ) (room 
   hands-small (Retain x i mirror ndisc) a = lit< tt
   hands-small (Rebuild x n int) a = lit< tt
   hands-small (Regenerate x n int i) a = lit< tt
+  hands-small (XdWriteRead x disable) a =
+      let n = length-result s g f x (a .0) 0 sent (a .1) in
+      omega (arith, blocks-small x (a .0))
 
 pub count-small : (m : List ℕ) (a : ℕ) (c s r : List ℕ) → stepOutcome m a c s r .count < 4294967296
 unfolding stepOutcome
 count-small m a c s r = pick (decided m a c s r) refl
   where
-    pick : (d : Decision) → decided m a c s r ≡ d → outcomeAfter d m .count < 4294967296
+    pick : (d : Decision) → decided m a c s r ≡ d → outcomeAfter d m s .count < 4294967296
     pick (Stop n w x) e = lit< tt
     pick (Go act x) e =
         let f = granted m a c s (length r) act x e in

@@ -21,7 +21,7 @@ use Rattle.meaning.specs.Acts.{stored, spanAt, resultOf, slotStores, leaves}
 use Rattle.meaning.specs.Stores.{stored-data}
 use Rattle.meaning.specs.Lengths.{span-after-media}
 
--- the result of a kind that an act on a span retains
+-- the result of a kind that an act on a span comes to
 abbrev pub resultIn : ℕ → Span → List ℕ → Result
 resultIn kind x bytes = record { kind = kind; drive = x .drive; block = x .block .0; len = x .count; bytes = bytes }
 

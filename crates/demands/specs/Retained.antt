@@ -21,8 +21,9 @@ use Rattle.image.specs.Shelf.{Shelf, shelf-frame}
 use Rattle.image.specs.Keeps.{shelf-written}
 use Rattle.meaning.specs.declared.Span.{Span}
 use Rattle.meaning.specs.declared.Act.{Act}
-use Rattle.meaning.specs.declared.Act.the-variants.{Read, Write, XpWrite, XdRead, Couple, Retain, Rebuild, Regenerate}
+use Rattle.meaning.specs.declared.Act.the-variants.{Read, Write, XpWrite, XdRead, Couple, Retain, Rebuild, Regenerate, XdWriteRead}
 use Rattle.meaning.specs.Acts.{spanAt, blocksOf, resultOf, gathered, leaves, hands}
+use Rattle.meaning.specs.Stores.{stored-alone}
 use Rattle.meaning.specs.Allowed.{Allowed}
 use Rattle.meaning.specs.Lengths.{span-after-media}
 use Rattle.demands.specs.Leaves.{resultIn, stored-result, retain-leaves}
@@ -38,6 +39,7 @@ afterwards s g sent (Couple x y mirror) = results s g
 afterwards s g sent (Retain x i mirror ndisc) = resultIn 1 x (resultOf s g x mirror sent) ∷ results s g
 afterwards s g sent (Rebuild x n int) = results s g
 afterwards s g sent (Regenerate x n int i) = resultIn 2 x (blocksOf s g x ⊻ gathered s g sent (x .count) n int) ∷ results s g
+afterwards s g sent (XdWriteRead x disable) = results s g
 
 module _ (s : List ℕ) (g : Geometry) (h : Shelf s g) (sent : List ℕ) where
   -- blocks written leave them
@@ -76,10 +78,12 @@ module _ (s : List ℕ) (g : Geometry) (h : Shelf s g) (sent : List ℕ) where
       ap (λ (t : List ℕ). results t g) (stored-result s g i 2 x bytes (a .3 .takes))
       ∙ retain-results s g (shelf-frame s g h) (h .slots-ok) i (a .3 .takes) (resultIn 2 x bytes)
       (regenerated-sound s g h sent x n int (a .0) (a .1) (a .2))
+  results-after room (XdWriteRead x disable) a =
+      ap (λ (t : List ℕ). results t g) (stored-alone s g x disable sent) ∙ written-results (spanAt g x) (cond (eqb disable 0) sent []) (span-after-media g x)
 
   -- XDREAD hands out the newest result at its drive and block, whole
   pub newest-handed : (room : ℕ) (x : Span) (i : ℕ) → Allowed s g sent room (XdRead x i)
-      → (firstOf (answers (x .drive) (x .block .0)) (results s g) ≡ some (resultAt s g i)) × (hands s g (XdRead x i) ≡ resultAt s g i .bytes)
+      → (firstOf (answers (x .drive) (x .block .0)) (results s g) ≡ some (resultAt s g i)) × (hands s g sent (XdRead x i) ≡ resultAt s g i .bytes)
   unfolding resultAt
   newest-handed room x i a =
       (newest-result s g (h .slots-ok) (x .drive) (x .block .0) i (a .0 .answers), ap (λ (k : ℕ). part s (dataAt g i) (k * g .l)) (sym (a .0 .same-len)))

@@ -27,7 +27,7 @@ module _ (m : List ℕ) (a : ℕ) (c s r : List ℕ) where
   unfolding stepOutcome stepImage stepRoom
   refused-keeps ne = pick (decided m a c s r) refl ne
     where
-      pick : (d : Decision) → decided m a c s r ≡ d → (outcomeAfter d m .answer ≡ Good → ⊥) → (imageAfter d m s ≡ m) × (roomAfter d m r ≡ r)
+      pick : (d : Decision) → decided m a c s r ≡ d → (outcomeAfter d m s .answer ≡ Good → ⊥) → (imageAfter d m s ≡ m) × (roomAfter d m s r ≡ r)
       pick (Stop n w x) e k = (refl, refl)
       pick (Go act x) e k = absurd (k (granted m a c s (length r) act x e .good))
 
@@ -53,6 +53,6 @@ module _ (m : List ℕ) (a : ℕ) (c s r : List ℕ) where
   unfolding stepOutcome stepRoom
   room-beside i n l = pick (decided m a c s r) l
     where
-      pick : (d : Decision) → outcomeAfter d m .count ≤ i → part (roomAfter d m r) i n ≡ part r i n
+      pick : (d : Decision) → outcomeAfter d m s .count ≤ i → part (roomAfter d m s r) i n ≡ part r i n
       pick (Stop k w x) l = refl
-      pick (Go act x) l = part-put-above r 0 (hands m (geometryOf m) act) i n (omega arith)
+      pick (Go act x) l = part-put-above r 0 (hands m (geometryOf m) s act) i n (omega arith)

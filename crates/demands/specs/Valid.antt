@@ -17,8 +17,9 @@ use Rattle.image.specs.Shelf.{Shelf, shelf-frame}
 use Rattle.image.specs.Keeps.{shelf-retained, shelf-released, shelf-written}
 use Rattle.meaning.specs.declared.Span.{Span}
 use Rattle.meaning.specs.declared.Act.{Act}
-use Rattle.meaning.specs.declared.Act.the-variants.{Read, Write, XpWrite, XdRead, Couple, Retain, Rebuild, Regenerate}
+use Rattle.meaning.specs.declared.Act.the-variants.{Read, Write, XpWrite, XdRead, Couple, Retain, Rebuild, Regenerate, XdWriteRead}
 use Rattle.meaning.specs.Acts.{spanAt, blocksOf, resultOf, gathered, leaves}
+use Rattle.meaning.specs.Stores.{stored-alone}
 use Rattle.meaning.specs.Allowed.{Blocks, Filled, Limited, Sourced, Allowed}
 use Rattle.meaning.specs.Lengths.{span-after-media, length-blocks, length-result, length-gathered}
 use Rattle.demands.specs.Leaves.{resultIn, stored-result, retain-leaves}
@@ -79,3 +80,5 @@ module _ (s : List ℕ) (g : Geometry) (h : Shelf s g) (sent : List ℕ) where
       let bytes = blocksOf s g x ⊻ gathered s g sent (x .count) n int in
       subst (λ (t : List ℕ). Shelf t g) (sym (stored-result s g i 2 x bytes (a .3 .takes)))
       (shelf-retained s g h i (a .3 .takes) (resultIn 2 x bytes) (regenerated-sound x n int (a .0) (a .1) (a .2)))
+  leaves-shelf room (XdWriteRead x disable) a =
+      subst (λ (t : List ℕ). Shelf t g) (sym (stored-alone s g x disable sent)) (shelf-written s g h (spanAt g x) (cond (eqb disable 0) sent []) (span-after-media g x))

@@ -13,22 +13,20 @@ use Rattle.rules.specs.Least.{index}
 use Rattle.geometry.specs.declared.Geometry.{Geometry}
 use Rattle.drives.specs.Table.{driveOf, failed}
 use Rattle.slots.specs.Find.{emptySlot}
-use Rattle.sense.specs.declared.Answer.the-variants.{Good, Busy, WrongCount, BadField, NestedAddress, NestedFailed, NestedRange}
+use Rattle.sense.specs.declared.Answer.the-variants.{Good, WrongCount, BadField, NestedAddress, NestedFailed, NestedRange}
 use Rattle.command.specs.declared.Command.{Command}
 use Rattle.command.specs.Command.{mirrorOf, ndiscOf, secOf}
-use Rattle.meaning.specs.declared.Act.the-variants.{Couple, Retain}
+use Rattle.meaning.specs.declared.Act.the-variants.{Couple}
 use Rattle.meaning.specs.declared.Seen.the-variants.{Dash, Cdb, Drive}
 use Rattle.meaning.specs.declared.Decision.{Decision}
 use Rattle.meaning.specs.declared.Decision.the-variants.{Stop, Go}
 use Rattle.meaning.specs.Sources.{isAt}
 use Rattle.meaning.specs.Checks.{isNothing, zeroControl, aboveM, inRange, spanOf}
+use Rattle.single.specs.Stages.{retainedOf}
 
 -- what a lookup gives is a drive of the shelf
 abbrev pub OnShelf : Geometry → Found → Type 0
 OnShelf g f = (j : ℕ) → f ≡ At j → j < g .d
-
-unfoldable pub retainedOf : Found → ℕ → Command → Decision
-retainedOf f t k = first Stop (rule 9 Dash (isNothing f) Busy ∷ []) (Go (Retain (spanOf t k) (index f) (mirrorOf k) (ndiscOf k)) Good)
 
 unfoldable pub secondedOf : ℕ → Bool → Geometry → ℕ → Command → Decision
 secondedOf j down g t k =
@@ -42,7 +40,7 @@ unfoldable pub reachedOf : Found → List ℕ → Geometry → ℕ → Command �
 reachedOf f m g t k = first Stop (rule 10 (Cdb 8) (isNothing f) NestedAddress ∷ []) (secondedOf (index f) (failed m g (index f)) g t k)
 
 unfoldable pub settledOf : Found → List ℕ → Geometry → ℕ → Command → Decision
-settledOf f m g t k = cond (eqb (secOf k) 3) (retainedOf (emptySlot m g) t k) (reachedOf f m g t k)
+settledOf f m g t k = cond (eqb (secOf k) 3) (retainedOf (emptySlot m g) (spanOf t k) (mirrorOf k) (ndiscOf k)) (reachedOf f m g t k)
 
 -- f is the secondary, own that it is the target
 unfoldable pub limitedOf : Bool → Found → List ℕ → Geometry → ℕ → Command → List ℕ → Decision

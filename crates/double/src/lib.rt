@@ -10,9 +10,8 @@ use rules::Found;
 use sense::Answer;
 ghost use mathlib.Core.Path.{_≡_};
 ghost use Rattle.geometry.specs.Frame.{Framed};
-ghost use Rattle.slots.specs.Find.{emptySlot};
 ghost use Rattle.command.specs.Command.{Fits};
-ghost use Rattle.double.specs.Stages.{OnShelf, xdwriteOf, limitedOf, settledOf, retainedOf, reachedOf, secondedOf};
+ghost use Rattle.double.specs.Stages.{OnShelf, xdwriteOf, limitedOf, settledOf, reachedOf, secondedOf};
 
 // The secondary is looked up but with Sec Ctl 11, where its fields are ignored.
 pub fn xdwrite(image: &[u8], g: Geometry, t: usize, k: Command, sent: &[u8]) -> Decision
@@ -82,23 +81,9 @@ fn settled(there: Found, image: &[u8], g: Geometry, t: usize, k: Command) -> Dec
 {
     let sec = k.sec();
     if sec == 3 {
-        return retained(image, g, t, k);
+        return single::retained(image, g, single::span(t, k), k.mirror(), k.ndisc());
     }
     reached(there, image, g, t, k)
-}
-
-// Sec Ctl 11: the lowest-numbered empty slot takes the result.
-fn retained(image: &[u8], g: Geometry, t: usize, k: Command) -> Decision
-    requires { ⌜ Framed (now image) g ⌝ }
-    ensures { λ r. ⌜ r ≡ retainedOf (emptySlot (now (image .entry)) g) t k ⌝ }
-{
-    match slots::empty_slot(image, g) {
-        Found::At(i) => Decision::Go(
-            Act::Retain(single::span(t, k), i, k.mirror(), k.ndisc()),
-            Answer::Good,
-        ),
-        Found::Nothing => Decision::Stop(9, Seen::Dash, Answer::Busy),
-    }
 }
 
 // Sec Ctl 00 or 10: check 10 of the secondary.

@@ -21,14 +21,14 @@ use Rattle.image.specs.Shelf.{Shelf, shelf-frame}
 use Rattle.sense.specs.declared.Answer.{Answer}
 use Rattle.sense.specs.declared.Answer.the-variants.{Good}
 use Rattle.command.specs.declared.Op.{Op}
-use Rattle.command.specs.declared.Op.the-variants.{XdWrite, XpWrite, XdRead, Rebuild, Regenerate, Read, Write, Unknown}
+use Rattle.command.specs.declared.Op.the-variants.{XdWrite, XpWrite, XdRead, Rebuild, Regenerate, Read, Write, XdWriteTen, XdWriteRead, Unknown}
 use Rattle.command.specs.declared.Command.{Command}
 use Rattle.command.specs.Command.{mirrorOf, ndiscOf, secOf, intOf, ownOf, resolvedOf, resolvedCount, listBytes}
 use Rattle.command.specs.Length.{resolved-some, resolved-same}
 use Rattle.command.specs.Sent.{sent-exact}
 use Rattle.meaning.specs.declared.Span.{Span}
 use Rattle.meaning.specs.declared.Act.{Act}
-use Rattle.meaning.specs.declared.Act.the-variants.{Read as ToRead, Write as ToWrite, XpWrite as ToXpWrite, XdRead as ToXdRead, Couple, Retain, Rebuild as ToRebuild, Regenerate as ToRegenerate}
+use Rattle.meaning.specs.declared.Act.the-variants.{Read as ToRead, Write as ToWrite, XpWrite as ToXpWrite, XdRead as ToXdRead, Couple, Retain, Rebuild as ToRebuild, Regenerate as ToRegenerate, XdWriteRead as ToXdWriteRead}
 use Rattle.meaning.specs.declared.Seen.{Seen}
 use Rattle.meaning.specs.declared.Fault.the-variants.{Clear}
 use Rattle.meaning.specs.declared.Decision.the-variants.{Stop, Go}
@@ -48,6 +48,7 @@ worksOn (Couple x y mirror) = x .drive
 worksOn (Retain x i mirror ndisc) = x .drive
 worksOn (ToRebuild x n int) = x .drive
 worksOn (ToRegenerate x n int i) = x .drive
+worksOn (ToXdWriteRead x disable) = x .drive
 
 pub no-stop : (n : ℕ) (w : Seen) (z : Answer) (x : Act) (y : Answer) → Stop n w z ≡ Go x y → ⊥
 no-stop n w z x y e = let q : _≡_ {A = ℕ} 0 1 = cc in omega arith
@@ -120,6 +121,14 @@ module _ (m : List ℕ) (g : Geometry) (t : ℕ) (s : List ℕ) (r : ℕ) (v : S
             eqb-true _ _ (not-false _ (p 6)),
           )
 
+  of-xdwrite-ten : (k : Command) → Passes (commandChecks XdWriteTen m g t k s r) → acts XdWriteTen m g t k s ≡ Go x y → Grants m g t s r x y
+  of-xdwrite-ten k p e =
+      just m g t s r x _ y e refl (own k (not-zero _ (p 5)) (ltb-false _ _ (p 6)), eqb-true _ _ (not-false _ (p 4)), ltb-false _ _ (p 2), free (p 7))
+
+  of-xdwriteread : (k : Command) → Passes (commandChecks XdWriteRead m g t k s r) → acts XdWriteRead m g t k s ≡ Go x y → Grants m g t s r x y
+  of-xdwriteread k p e =
+      just m g t s r x _ y e refl (own k (not-zero _ (p 5)) (ltb-false _ _ (p 6)), eqb-true _ _ (not-false _ (p 4)), ltb-false _ _ (p 7))
+
   module _ (k : Command) where
     -- the list and what follows it
     sourced : length s ≡ listBytes k (g .l) → eqb (k .list) 0 ≡ false → k .list ≡ 8 + 8 * getD s 0 0 → eqb (getD s 0 0) 0 ≡ false
@@ -168,4 +177,6 @@ module _ (m : List ℕ) (g : Geometry) (t : ℕ) (s : List ℕ) (r : ℕ) (v : S
   of-each Regenerate k p e = of-regenerate k p e
   of-each Read k p e = of-read k p e
   of-each Write k p e = of-write k p e
+  of-each XdWriteTen k p e = of-xdwrite-ten k p e
+  of-each XdWriteRead k p e = of-xdwriteread k p e
   of-each Unknown k p e = absurd (no-stop _ _ _ x y e)

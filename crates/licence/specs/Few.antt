@@ -13,7 +13,7 @@ use Rattle.geometry.specs.Header.{geometryOf}
 use Rattle.drives.specs.Table.{driveOf}
 use Rattle.sense.specs.declared.Answer.{Answer}
 use Rattle.command.specs.declared.Op.{Op}
-use Rattle.command.specs.declared.Op.the-variants.{XdWrite, XpWrite, XdRead, Rebuild, Regenerate, Read, Write, Unknown}
+use Rattle.command.specs.declared.Op.the-variants.{XdWrite, XpWrite, XdRead, Rebuild, Regenerate, Read, Write, XdWriteTen, XdWriteRead, Unknown}
 use Rattle.command.specs.declared.Command.{Command}
 use Rattle.command.specs.Command.{opOf, commandOf, secOf}
 use Rattle.meaning.specs.declared.Act.{Act}
@@ -37,11 +37,13 @@ module _ (m : List ℕ) (g : Geometry) (t : ℕ) (k : Command) (s : List ℕ) (b
   acts-few Regenerate = b 0
   acts-few Read = tt
   acts-few Write = tt
+  acts-few XdWriteTen = tt
+  acts-few XdWriteRead = tt
   acts-few Unknown = tt
 
 pub few : (m : List ℕ) (a : ℕ) (c s : List ℕ) (r : ℕ) (x : Act) (y : Answer) → Octets s → decideOf m a c s r ≡ Go x y → Few x
 unfolding decideOf
 few m a c s r x y b e =
-    let w = passed Stop (checks m a c s r) (carriedOut m a c s) (Go x y) (λ n w z. no-stop n w z x y) e in
     let o = opOf (getD c 0 0) in
+    let w = passed Stop (checks o m a c s r) (carriedOut o m a c s) (Go x y) (λ n w z. no-stop n w z x y) e in
     subst FewIn (w .1) (acts-few m (geometryOf m) (index (driveOf m (geometryOf m) a)) (commandOf o c) s b o)

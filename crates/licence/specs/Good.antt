@@ -17,7 +17,7 @@ use Rattle.drives.specs.Table.{driveOf}
 use Rattle.sense.specs.declared.Answer.the-variants.{Good}
 use Rattle.sense.specs.Answers.{numberOf}
 use Rattle.command.specs.declared.Op.{Op}
-use Rattle.command.specs.declared.Op.the-variants.{XdWrite, XpWrite, XdRead, Rebuild, Regenerate, Read, Write, Unknown}
+use Rattle.command.specs.declared.Op.the-variants.{XdWrite, XpWrite, XdRead, Rebuild, Regenerate, Read, Write, XdWriteTen, XdWriteRead, Unknown}
 use Rattle.command.specs.Command.{opOf}
 use Rattle.meaning.specs.declared.Fault.{Fault}
 use Rattle.meaning.specs.declared.Fault.the-variants.{Clear, Absent, Failed, Beyond}
@@ -53,16 +53,19 @@ checks-fine Rebuild m g a t c s r = rw fault-fine
 checks-fine Regenerate m g a t c s r = rw fault-fine
 checks-fine Read m g a t c s r = refl
 checks-fine Write m g a t c s r = refl
+checks-fine XdWriteTen m g a t c s r = refl
+checks-fine XdWriteRead m g a t c s r = refl
 checks-fine Unknown m g a t c s r = refl
 
 pub good-idle : (m : List ℕ) (a : ℕ) (c s : List ℕ) (r n : ℕ) (w : Seen) → decideOf m a c s r ≡ Stop n w Good → (n ≡ 6) ⊎ (n ≡ 7)
 good-idle m a c s r n w e =
     let h = why m a c s r n w Good e in
     let g = geometryOf m in
-    let all = checks-fine (opOf (getD c 0 0)) m g a (index (driveOf m g a)) c s r in
+    let o = opOf (getD c 0 0) in
+    let all = checks-fine o m g a (index (driveOf m g a)) c s r in
     let x : Check = rule 0 Dash false Good in
     let f : fine (rule n w true Good) ≡ true =
-    ap fine (sym (h .itself x)) ∙ sym (List·getD-map fine (checks m a c s r) (h .place) x) ∙ holds (map fine (checks m a c s r)) (h .place) all in
+    ap fine (sym (h .itself x)) ∙ sym (List·getD-map fine (checks o m a c s r) (h .place) x) ∙ holds (map fine (checks o m a c s r)) (h .place) all in
     pick (eqb n 6) (eqb n 7) refl refl f
   where
     pick : (u v : Bool) → eqb n 6 ≡ u → eqb n 7 ≡ v → cond (cond u true v) true false ≡ true → (n ≡ 6) ⊎ (n ≡ 7)

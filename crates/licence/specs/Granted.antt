@@ -1,4 +1,4 @@
--- "Checks, then effect": a decision to go grants everything that the code that acts needs. Assumes nothing.
+-- Checks first, then the effect: a decision to go grants everything that the code that acts needs. Assumes nothing.
 use Prim.Native.Nat.{ℕ}
 use mathlib.Core.List.{List}
 use mathlib.Core.Path.{_≡_, sym, ap, subst, _∙_}
@@ -34,12 +34,12 @@ pub granted : (m : List ℕ) (a : ℕ) (c s : List ℕ) (r : ℕ) (x : Act) (y :
 unfolding decideOf
 granted m a c s r x y e =
     let g = geometryOf m in
-    let w = passed Stop (checks m a c s r) (carriedOut m a c s) (Go x y) (λ n w z. no-stop n w z x y) e in
+    let o = opOf (getD c 0 0) in
+    let w = passed Stop (checks o m a c s r) (carriedOut o m a c s) (Go x y) (λ n w z. no-stop n w z x y) e in
     let p = w .0 in
     let v = shelf m (not-false _ (p .0)) in
     let f = found (driveOf m g a) (p .1 .0) in
     let t = index (driveOf m g a) in
-    let o = opOf (getD c 0 0) in
     let k = commandOf o c in
     let all = passes (commandChecks o m g t k s r) (p .1 .1 .1 .1 .1 .1) in
     let h = of-each m g t s r v (drive-inside m g a t f .0) (p .1 .1 .1 .1 .1 .0) x y o k all (w .1) in

@@ -15,7 +15,7 @@ use Rattle.geometry.specs.Header.{geometryOf}
 use Rattle.drives.specs.Table.{driveOf}
 use Rattle.sense.specs.declared.Answer.{Answer}
 use Rattle.command.specs.declared.Op.{Op}
-use Rattle.command.specs.declared.Op.the-variants.{XdWrite, XpWrite, XdRead, Rebuild, Regenerate, Read, Write, Unknown}
+use Rattle.command.specs.declared.Op.the-variants.{XdWrite, XpWrite, XdRead, Rebuild, Regenerate, Read, Write, XdWriteTen, XdWriteRead, Unknown}
 use Rattle.command.specs.declared.Command.{Command}
 use Rattle.command.specs.Command.{opOf, commandOf, secOf}
 use Rattle.meaning.specs.declared.Act.{Act}
@@ -37,14 +37,18 @@ module _ (m : List ℕ) (g : Geometry) (t : ℕ) (k : Command) (s : List ℕ) (n
   goes-on Regenerate u e = not-stop _ _ e
   goes-on Read u e = not-stop _ _ e
   goes-on Write u e = not-stop _ _ e
+  goes-on XdWriteTen u e = not-stop _ _ e
+  goes-on XdWriteRead u e = not-stop _ _ e
   goes-on Unknown u e = let z : _≡_ {A = ℕ} 0 1 = cc in omega arith
 
 stop-apart : (n n′ : ℕ) (w w′ : Seen) (a a′ : Answer) → Stop n w a ≡ Stop n′ w′ a′ → (n ≡ n′) × (w ≡ w′) × (a ≡ a′)
 stop-apart n n′ w w′ a a′ e = (cc, cc, cc)
 
 -- a stop names its reason
-pub why : (m : List ℕ) (a : ℕ) (c s : List ℕ) (r n : ℕ) (w : Seen) (y : Answer) → decideOf m a c s r ≡ Stop n w y → Reason (checks m a c s r) n w y
+pub why : (m : List ℕ) (a : ℕ) (c s : List ℕ) (r n : ℕ) (w : Seen) (y : Answer) → decideOf m a c s r ≡ Stop n w y
+    → Reason (checks (opOf (getD c 0 0)) m a c s r) n w y
 unfolding decideOf
 why m a c s r n w y =
-    reason Stop stop-apart (checks m a c s r) (carriedOut m a c s) n w y
-    (λ p. goes-on m (geometryOf m) (index (driveOf m (geometryOf m) a)) (commandOf (opOf (getD c 0 0)) c) s n w y (opOf (getD c 0 0)) (p .1 .1 .1 .1 .0))
+    let o = opOf (getD c 0 0) in
+    reason Stop stop-apart (checks o m a c s r) (carriedOut o m a c s) n w y
+    (λ p. goes-on m (geometryOf m) (index (driveOf m (geometryOf m) a)) (commandOf o c) s n w y o (p .1 .1 .1 .1 .0))

@@ -1,5 +1,5 @@
--- What a command that passed every check does to the image, and what it hands to the receive room (01, "Commands"). Every operand is
--- read from the image before the command; stores are done in the order in which they stand. Assumes nothing.
+-- What a command that passed every check does to the image, and what it hands to the receive room (01, "Commands"; 02, A1). Every
+-- operand is read from the image before the command; stores are done in the order in which they stand. Assumes nothing.
 use Prim.Native.Nat.{ℕ, zero, suc, _+_, _*_}
 use mathlib.Core.List.{List, [], _∷_, _++_}
 use mathlib.Core.Bool.{Bool, cond}
@@ -19,7 +19,7 @@ use Rattle.command.specs.declared.Source.{Source}
 use Rattle.command.specs.Command.{sourceOf}
 use Rattle.meaning.specs.declared.Span.{Span}
 use Rattle.meaning.specs.declared.Act.{Act}
-use Rattle.meaning.specs.declared.Act.the-variants.{Read, Write, XpWrite, XdRead, Couple, Retain, Rebuild, Regenerate}
+use Rattle.meaning.specs.declared.Act.the-variants.{Read, Write, XpWrite, XdRead, Couple, Retain, Rebuild, Regenerate, XdWriteRead}
 
 -- ---- stores
 
@@ -70,7 +70,7 @@ abbrev pub slotStores : List ℕ → Geometry → ℕ → ℕ → Span → List 
 slotStores s g i kind x bytes =
     store (dataAt g i) bytes ∷ store (slotAt g i) (bytesOf (entry (usedCount s g + 1) kind (x .drive) (x .block .0) (x .count))) ∷ []
 
--- with Sec Ctl 11 the data is written where NDisc is 0
+-- with Sec Ctl 11 the data is written where NDisc is 0, and by 50h and 53h where DISABLE WRITE is 0
 abbrev pub dataStores : Geometry → Span → ℕ → List ℕ → List Store
 dataStores g x ndisc sent = cond (eqb ndisc 0) (store (spanAt g x) sent ∷ []) []
 
@@ -120,15 +120,19 @@ leaves s g sent (Retain x i mirror ndisc) = stored s (dataStores g x ndisc sent 
 leaves s g sent (Rebuild x n int) = stored s (store (spanAt g x) (gathered s g sent (x .count) n int) ∷ [])
 -- "REGENERATE adds the target's own blocks and retains the XOR."
 leaves s g sent (Regenerate x n int i) = stored s (slotStores s g i 2 x (blocksOf s g x ⊻ gathered s g sent (x .count) n int))
+-- A1: 53h "takes no slot"
+leaves s g sent (XdWriteRead x disable) = stored s (dataStores g x disable sent)
 
 -- what goes to the receive room's front
-abbrev pub hands : List ℕ → Geometry → Act → List ℕ
-hands s g (Read x) = blocksOf s g x
-hands s g (Write x) = []
-hands s g (XpWrite x) = []
+abbrev pub hands : List ℕ → Geometry → List ℕ → Act → List ℕ
+hands s g sent (Read x) = blocksOf s g x
+hands s g sent (Write x) = []
+hands s g sent (XpWrite x) = []
 -- "Its bytes go to the receive room's front"
-hands s g (XdRead x i) = part s (dataAt g i) (x .count * g .l)
-hands s g (Couple x y mirror) = []
-hands s g (Retain x i mirror ndisc) = []
-hands s g (Rebuild x n int) = []
-hands s g (Regenerate x n int i) = []
+hands s g sent (XdRead x i) = part s (dataAt g i) (x .count * g .l)
+hands s g sent (Couple x y mirror) = []
+hands s g sent (Retain x i mirror ndisc) = []
+hands s g sent (Rebuild x n int) = []
+hands s g sent (Regenerate x n int i) = []
+-- A1: 53h "puts the XOR in the receive room", of the data and the old blocks
+hands s g sent (XdWriteRead x disable) = sent ⊻ blocksOf s g x

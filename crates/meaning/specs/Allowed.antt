@@ -16,7 +16,7 @@ use Rattle.command.specs.declared.Source.{Source}
 use Rattle.command.specs.Command.{sourceOf}
 use Rattle.meaning.specs.declared.Span.{Span}
 use Rattle.meaning.specs.declared.Act.{Act}
-use Rattle.meaning.specs.declared.Act.the-variants.{Read, Write, XpWrite, XdRead, Couple, Retain, Rebuild, Regenerate}
+use Rattle.meaning.specs.declared.Act.the-variants.{Read, Write, XpWrite, XdRead, Couple, Retain, Rebuild, Regenerate, XdWriteRead}
 
 -- blocks of a present drive, one at least
 pub record Blocks (s : List ℕ) (g : Geometry) (x : Span) : Type 0 where
@@ -73,6 +73,7 @@ Allowed s g sent room (Couple x y mirror) = Blocks s g x × Blocks s g y × (x .
 Allowed s g sent room (Retain x i mirror ndisc) = Blocks s g x × Filled g x sent × Limited g x × Free s g i
 Allowed s g sent room (Rebuild x n int) = Blocks s g x × Sourced s g x n int sent
 Allowed s g sent room (Regenerate x n int i) = Blocks s g x × Sourced s g x n int sent × Limited g x × Free s g i
+Allowed s g sent room (XdWriteRead x disable) = Blocks s g x × Filled g x sent × Roomy g x room
 
 -- where an act has sources, a byte counts them
 abbrev pub Few : Act → Type 0
@@ -84,3 +85,4 @@ Few (Couple x y mirror) = Unit {0}
 Few (Retain x i mirror ndisc) = Unit {0}
 Few (Rebuild x n int) = n < 256
 Few (Regenerate x n int i) = n < 256
+Few (XdWriteRead x disable) = Unit {0}

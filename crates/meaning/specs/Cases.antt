@@ -14,12 +14,16 @@ parity = four 0xFE 0x02 0xFC 0x04
 abbrev pub left : List ℕ → List ℕ
 left bytes = replicate 16 0 ++ bytes ++ zeros
 
--- C0 with byte 1 given, block 0, length 1, secondary 3 at block 0; a 10-byte command at a block; C3 and C4 of length 1
+-- C0 with byte 1 given, block 0, length 1, secondary 3 at block 0; a 10-byte command at a block, with byte 1 given or zero; C3 and C4 of
+-- length 1
 abbrev pub xdwrite : ℕ → List ℕ
 xdwrite flags = 0xC0 ∷ flags ∷ 0 ∷ 0 ∷ 0 ∷ 0 ∷ 0 ∷ 1 ∷ 0 ∷ 0 ∷ 3 ∷ replicate 5 0
 
+abbrev pub tenSaid : ℕ → ℕ → ℕ → ℕ → List ℕ
+tenSaid code flags block n = code ∷ flags ∷ 0 ∷ 0 ∷ 0 ∷ block ∷ 0 ∷ 0 ∷ n ∷ 0 ∷ []
+
 abbrev pub ten : ℕ → ℕ → ℕ → List ℕ
-ten code block n = code ∷ 0 ∷ 0 ∷ 0 ∷ 0 ∷ block ∷ 0 ∷ 0 ∷ n ∷ 0 ∷ []
+ten code block n = tenSaid code 0 block n
 
 abbrev pub listCdb : ℕ → ℕ → List ℕ
 listCdb code n = code ∷ 0 ∷ 0 ∷ 0 ∷ 0 ∷ 1 ∷ 0 ∷ 0 ∷ n ∷ 0 ∷ []

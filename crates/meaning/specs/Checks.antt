@@ -1,4 +1,5 @@
 -- 01, "Answers and the order of checks": "The first that applies decides". Within one check the rules stand by the byte they look at.
+-- The published codes of 02, A1, have the same checks in the same order. Where a table goes by operation, those of 1994 stand first.
 -- m is the image, g its geometry, a the target's address, t its index, o the operation, c the CDB, k the command, s the data-out
 -- bytes, r the receive room's length. A rule is: 01's check, where it is seen, whether it applies, the answer. Assumes nothing.
 use Prim.Native.Nat.{ℕ, _+_, _*_}
@@ -21,11 +22,11 @@ use Rattle.image.specs.Valid.{validImage}
 use Rattle.sense.specs.declared.Answer.{Answer}
 use Rattle.sense.specs.declared.Answer.the-variants.{Good, Busy, BadImage, NoTarget, BadCdb, WrongCount, ShortRoom, UnknownCode, TargetFailed, BadField, BadListLength, BadList, BadRange, NestedAddress, NestedFailed, NestedRange}
 use Rattle.command.specs.declared.Op.{Op}
-use Rattle.command.specs.declared.Op.the-variants.{XdWrite, XpWrite, XdRead, Rebuild, Regenerate, Read, Write, Unknown}
+use Rattle.command.specs.declared.Op.the-variants.{XdWrite, XpWrite, XdRead, Rebuild, Regenerate, Read, Write, XdWriteTen, XdWriteRead, Unknown}
 use Rattle.command.specs.declared.Command.{Command}
-use Rattle.command.specs.Command.{opOf, sizeOf, zeroBits, commandOf, mirrorOf, ndiscOf, secOf, intOf, listSecOf, ownOf, resolvedOf, listBytes}
+use Rattle.command.specs.Command.{opOf, sizeOf, zeroBits, commandOf, mirrorOf, ndiscOf, secOf, intOf, listSecOf, disableOf, ownOf, resolvedOf, listBytes}
 use Rattle.meaning.specs.declared.Span.{Span}
-use Rattle.meaning.specs.declared.Act.the-variants.{Read as ToRead, Write as ToWrite, XpWrite as ToXpWrite, XdRead as ToXdRead, Couple, Retain, Rebuild as ToRebuild, Regenerate as ToRegenerate}
+use Rattle.meaning.specs.declared.Act.the-variants.{Read as ToRead, Write as ToWrite, XpWrite as ToXpWrite, XdRead as ToXdRead, Couple, Retain, Rebuild as ToRebuild, Regenerate as ToRegenerate, XdWriteRead as ToXdWriteRead}
 use Rattle.meaning.specs.declared.Seen.{Seen}
 use Rattle.meaning.specs.declared.Seen.the-variants.{Dash, Cdb, List as InList, Drive, Entry, EntryDrive}
 use Rattle.meaning.specs.declared.Fault.{Fault}
@@ -75,7 +76,7 @@ zeroSix k = rule 4 (Cdb 6) (not (eqb (k .six) 0)) BadField ∷ []
 abbrev pub zeroControl : ℕ → Command → List Check
 zeroControl at k = rule 4 (Cdb at) (not (eqb (k .control) 0)) BadField ∷ []
 
--- "XDWRITE, XPWRITE or REGENERATE length above M"
+-- "XDWRITE, XPWRITE or REGENERATE length above M"; A1: 53h "has limit M"
 abbrev pub aboveM : ℕ → Geometry → Command → List Check
 aboveM at g k = rule 4 (Cdb at) (ltb (g .m) (k .count)) BadField ∷ []
 
@@ -103,10 +104,12 @@ fields Rebuild m g t k =
 fields Regenerate m g t k = listFlags Regenerate k ++ aboveM 2 g k ++ zeroSix k ++ zeroControl 9 k
 fields Read m g t k = zeroFlags Read k ++ zeroSix k ++ zeroControl 9 k
 fields Write m g t k = zeroFlags Write k ++ zeroSix k ++ zeroControl 9 k
+fields XdWriteTen m g t k = zeroFlags XdWriteTen k ++ zeroSix k ++ aboveM 7 g k ++ zeroControl 9 k
+fields XdWriteRead m g t k = zeroFlags XdWriteRead k ++ zeroSix k ++ aboveM 7 g k ++ zeroControl 9 k
 fields Unknown m g t k = []
 
 -- 5. "Call 4. XDWRITE, XPWRITE, WRITE send length*L; REBUILD and REGENERATE list length plus, with Int Data, length*L, or nothing if the
--- list length is 0; READ and XDREAD nothing."
+-- list length is 0; READ and XDREAD nothing." A1: 53h "sends length*L".
 abbrev pub sends : Op → Geometry → Command → ℕ
 sends XdWrite g k = k .count * g .l
 sends XpWrite g k = k .count * g .l
@@ -115,9 +118,11 @@ sends Rebuild g k = listBytes k (g .l)
 sends Regenerate g k = listBytes k (g .l)
 sends Read g k = 0
 sends Write g k = k .count * g .l
+sends XdWriteTen g k = k .count * g .l
+sends XdWriteRead g k = k .count * g .l
 sends Unknown g k = 0
 
--- 6. "GOOD for zero length (READ, WRITE, XDWRITE, XPWRITE) or list length zero."
+-- 6. "GOOD for zero length (READ, WRITE, XDWRITE, XPWRITE) or list length zero." A1: "zero length is GOOD for 50h, 51h and 53h".
 abbrev pub idle : Op → Command → List Check
 idle XdWrite k = rule 6 (Cdb 6) (eqb (k .count) 0) Good ∷ []
 idle XpWrite k = rule 6 (Cdb 7) (eqb (k .count) 0) Good ∷ []
@@ -126,6 +131,8 @@ idle Rebuild k = rule 6 (Cdb 7) (eqb (k .list) 0) Good ∷ []
 idle Regenerate k = rule 6 (Cdb 7) (eqb (k .list) 0) Good ∷ []
 idle Read k = rule 6 (Cdb 7) (eqb (k .count) 0) Good ∷ []
 idle Write k = rule 6 (Cdb 7) (eqb (k .count) 0) Good ∷ []
+idle XdWriteTen k = rule 6 (Cdb 7) (eqb (k .count) 0) Good ∷ []
+idle XdWriteRead k = rule 6 (Cdb 7) (eqb (k .count) 0) Good ∷ []
 idle Unknown k = []
 
 -- 7. "List length not 8 + 8*sources, or below 8: 05h/1Ah/00h."
@@ -156,6 +163,8 @@ lists Rebuild m g t k s = listRules m g t k s
 lists Regenerate m g t k s = listRules m g t k s
 lists Read m g t k s = []
 lists Write m g t k s = []
+lists XdWriteTen m g t k s = []
+lists XdWriteRead m g t k s = []
 lists Unknown m g t k s = []
 
 -- "the step works on the command with that length resolved"
@@ -178,9 +187,11 @@ ranges Rebuild m g t k s = inRange (InList 4) g (resolved g k s)
 ranges Regenerate m g t k s = inRange (InList 4) g (resolved g k s)
 ranges Read m g t k s = inRange (Cdb 2) g k
 ranges Write m g t k s = inRange (Cdb 2) g k
+ranges XdWriteTen m g t k s = inRange (Cdb 2) g k
+ranges XdWriteRead m g t k s = inRange (Cdb 2) g k
 ranges Unknown m g t k s = []
 
--- 9. "Something to retain and no empty slot: BUSY."
+-- 9. "Something to retain and no empty slot: BUSY." A1: "50h always retains", and 53h "takes no slot".
 abbrev pub busy : Op → List ℕ → Geometry → Command → List Check
 busy XdWrite m g k = rule 9 Dash (eqb (secOf k) 3 && isNothing (emptySlot m g)) Busy ∷ []
 busy XpWrite m g k = []
@@ -189,6 +200,8 @@ busy Rebuild m g k = []
 busy Regenerate m g k = rule 9 Dash (isNothing (emptySlot m g)) Busy ∷ []
 busy Read m g k = []
 busy Write m g k = []
+busy XdWriteTen m g k = rule 9 Dash (isNothing (emptySlot m g)) Busy ∷ []
+busy XdWriteRead m g k = []
 busy Unknown m g k = []
 
 -- 10. "Nested: the secondary, or the first source entry in list order that fails decides; for one entry, address, then failed drive,
@@ -229,9 +242,11 @@ nested Rebuild m g k s = sourceRules (firstBad m g s (resolved g k s .count) 0 (
 nested Regenerate m g k s = sourceRules (firstBad m g s (resolved g k s .count) 0 (getD s 0 0))
 nested Read m g k s = []
 nested Write m g k s = []
+nested XdWriteTen m g k s = []
+nested XdWriteRead m g k s = []
 nested Unknown m g k s = []
 
--- 11. "Call 5."
+-- 11. "Call 5." A1: 53h "puts the XOR in the receive room".
 abbrev pub roomRule : Geometry → Command → ℕ → List Check
 roomRule g k r = rule 11 Dash (ltb r (k .count * g .l)) ShortRoom ∷ []
 
@@ -243,6 +258,8 @@ rooms Rebuild g k r = []
 rooms Regenerate g k r = []
 rooms Read g k r = roomRule g k r
 rooms Write g k r = []
+rooms XdWriteTen g k r = []
+rooms XdWriteRead g k r = roomRule g k r
 rooms Unknown g k r = []
 
 -- what is done where no check applies, and the answer to it
@@ -263,6 +280,9 @@ acts Rebuild m g t k s = Go (ToRebuild (spanOf t (resolved g k s)) (getD s 0 0) 
 acts Regenerate m g t k s = Go (ToRegenerate (spanOf t (resolved g k s)) (getD s 0 0) (intOf k) (index (emptySlot m g))) Good
 acts Read m g t k s = Go (ToRead (spanOf t k)) Good
 acts Write m g t k s = Go (ToWrite (spanOf t k)) Good
+-- A1: "50h always retains", as XDWRITE with Sec Ctl 11 does, DISABLE WRITE for NDisc
+acts XdWriteTen m g t k s = Go (Retain (spanOf t k) (index (emptySlot m g)) 0 (disableOf k)) Good
+acts XdWriteRead m g t k s = Go (ToXdWriteRead (spanOf t k) (disableOf k)) Good
 acts Unknown m g t k s = Stop 2 (Cdb 0) UnknownCode
 
 -- checks 4 to 11
@@ -281,13 +301,17 @@ commandChecks o m g t k s r =
 abbrev pub checksFor : Op → List ℕ → Geometry → ℕ → ℕ → List ℕ → List ℕ → ℕ → List Check
 checksFor o m g a t c s r = calls m a ++ cdbCalls o c ++ known m g t o ++ commandChecks o m g t (commandOf o c) s r
 
-abbrev pub checks : List ℕ → ℕ → List ℕ → List ℕ → ℕ → List Check
-checks m a c s r = checksFor (opOf (getD c 0 0)) m (geometryOf m) a (index (driveOf m (geometryOf m) a)) c s r
+-- of image m itself, and what is done where none applies
+abbrev pub checks : Op → List ℕ → ℕ → List ℕ → List ℕ → ℕ → List Check
+checks o m a c s r = checksFor o m (geometryOf m) a (index (driveOf m (geometryOf m) a)) c s r
 
-abbrev pub carriedOut : List ℕ → ℕ → List ℕ → List ℕ → Decision
-carriedOut m a c s =
-    acts (opOf (getD c 0 0)) m (geometryOf m) (index (driveOf m (geometryOf m) a)) (commandOf (opOf (getD c 0 0)) c) s
+abbrev pub carriedOut : Op → List ℕ → ℕ → List ℕ → List ℕ → Decision
+carriedOut o m a c s = acts o m (geometryOf m) (index (driveOf m (geometryOf m) a)) (commandOf o c) s
 
 -- "The first that applies decides"
+abbrev pub decideFor : Op → List ℕ → ℕ → List ℕ → List ℕ → ℕ → Decision
+decideFor o m a c s r = first Stop (checks o m a c s r) (carriedOut o m a c s)
+
+-- for the operation that the CDB's first byte says
 unfoldable pub decideOf : List ℕ → ℕ → List ℕ → List ℕ → ℕ → Decision
-decideOf m a c s r = first Stop (checks m a c s r) (carriedOut m a c s)
+decideOf m a c s r = decideFor (opOf (getD c 0 0)) m a c s r

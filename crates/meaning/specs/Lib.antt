@@ -6,8 +6,10 @@ pub mod Sources
 pub mod Checks
 pub mod Step
 pub mod Stepped
+pub mod Step1994
 pub mod Calls
 pub mod Row
 pub mod Cases
 pub mod Several
+pub mod Published
 pub mod Tables

@@ -30,23 +30,23 @@ abbrev pub imageAfter : Decision → List ℕ → List ℕ → List ℕ
 imageAfter (Stop n w x) m s = m
 imageAfter (Go act x) m s = leaves m (geometryOf m) s act
 
--- "A GOOD read or XDREAD returns its byte count; bytes past it stay."
-abbrev pub roomAfter : Decision → List ℕ → List ℕ → List ℕ
-roomAfter (Stop n w x) m r = r
-roomAfter (Go act x) m r = put r 0 (hands m (geometryOf m) act)
+-- "A GOOD read or XDREAD returns its byte count; bytes past it stay." A1: 53h "counts it" too
+abbrev pub roomAfter : Decision → List ℕ → List ℕ → List ℕ → List ℕ
+roomAfter (Stop n w x) m s r = r
+roomAfter (Go act x) m s r = put r 0 (hands m (geometryOf m) s act)
 
-abbrev pub outcomeAfter : Decision → List ℕ → Outcome
-outcomeAfter (Stop n w x) m = outcomeOf x 0
-outcomeAfter (Go act x) m = outcomeOf x (length (hands m (geometryOf m) act))
+abbrev pub outcomeAfter : Decision → List ℕ → List ℕ → Outcome
+outcomeAfter (Stop n w x) m s = outcomeOf x 0
+outcomeAfter (Go act x) m s = outcomeOf x (length (hands m (geometryOf m) s act))
 
 unfoldable pub stepImage : List ℕ → ℕ → List ℕ → List ℕ → List ℕ → List ℕ
 stepImage m a c s r = imageAfter (decided m a c s r) m s
 
 unfoldable pub stepRoom : List ℕ → ℕ → List ℕ → List ℕ → List ℕ → List ℕ
-stepRoom m a c s r = roomAfter (decided m a c s r) m r
+stepRoom m a c s r = roomAfter (decided m a c s r) m s r
 
 unfoldable pub stepOutcome : List ℕ → ℕ → List ℕ → List ℕ → List ℕ → Outcome
-stepOutcome m a c s r = outcomeAfter (decided m a c s r) m
+stepOutcome m a c s r = outcomeAfter (decided m a c s r) m s
 
 -- ---- a reset: "Reset uses 1, 2"; "Hard reset drops all results of its drive, present or failed"
 

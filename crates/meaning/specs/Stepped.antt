@@ -38,18 +38,18 @@ module _ (m : List ℕ) (a : ℕ) (c s r : List ℕ) where
   unfolding stepOutcome stepImage stepRoom
   stopped n w x o e q =
       record {
-        outcome = q ∙ sym (ap (λ (d : Decision). outcomeAfter d m) e);
+        outcome = q ∙ sym (ap (λ (d : Decision). outcomeAfter d m s) e);
         image = sym (ap (λ (d : Decision). imageAfter d m s) e);
-        room = sym (ap (λ (d : Decision). roomAfter d m r) e);
+        room = sym (ap (λ (d : Decision). roomAfter d m s r) e);
       }
 
   -- none did
   pub went : (act : Act) (x : Answer) (g : Geometry) (k : ℕ) (o : Outcome) (m′ r′ : List ℕ) → decided m a c s r ≡ Go act x → g ≡ geometryOf m
-      → m′ ≡ leaves m g s act → r′ ≡ put r 0 (hands m g act) → k ≡ length (hands m g act) → o ≡ outcomeOf x k → Stepped m a c s r o m′ r′
+      → m′ ≡ leaves m g s act → r′ ≡ put r 0 (hands m g s act) → k ≡ length (hands m g s act) → o ≡ outcomeOf x k → Stepped m a c s r o m′ r′
   unfolding stepOutcome stepImage stepRoom
   went act x g k o m′ r′ e h p q l z =
       record {
-        outcome = z ∙ ap (outcomeOf x) (l ∙ ap (λ (j : Geometry). length (hands m j act)) h) ∙ sym (ap (λ (d : Decision). outcomeAfter d m) e);
+        outcome = z ∙ ap (outcomeOf x) (l ∙ ap (λ (j : Geometry). length (hands m j s act)) h) ∙ sym (ap (λ (d : Decision). outcomeAfter d m s) e);
         image = p ∙ ap (λ (j : Geometry). leaves m j s act) h ∙ sym (ap (λ (d : Decision). imageAfter d m s) e);
-        room = q ∙ ap (λ (j : Geometry). put r 0 (hands m j act)) h ∙ sym (ap (λ (d : Decision). roomAfter d m r) e);
+        room = q ∙ ap (λ (j : Geometry). put r 0 (hands m j s act)) h ∙ sym (ap (λ (d : Decision). roomAfter d m s r) e);
       }

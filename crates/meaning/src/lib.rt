@@ -19,12 +19,14 @@ pub enum Act {
     XdRead(Span, usize),
     // the data's blocks, the secondary's, Mirror
     Couple(Span, Span, usize),
-    // the data's blocks, the slot that takes the result, Mirror, NDisc
+    // the data's blocks, the slot that takes the result, Mirror, NDisc or DISABLE WRITE
     Retain(Span, usize, usize, usize),
     // the target's blocks, how many sources, Int Data
     Rebuild(Span, usize, usize),
     // the same, and the slot that takes the result
     Regenerate(Span, usize, usize, usize),
+    // the data's blocks, DISABLE WRITE
+    XdWriteRead(Span, usize),
 }
 
 // Where the check that decided saw it: nowhere, a byte of the CDB or of the parameter list, the state

@@ -25,6 +25,12 @@ xdread-once = from (λ _ _ _ _ p. p .0 and p .1 and p .2)
 pub pass-on-once : Only inner.pass-on (λ _ _ s. now (s .0))
 pass-on-once = equation
 
+pub mix-once : Only inner.mix (λ _ _ s. now (s .0))
+mix-once = equation
+
+pub write-data-once : Only inner.write-data (λ _ _ s. now (s .0))
+write-data-once = equation
+
 pub rebuild-once : Only inner.rebuild (λ _ _ s. now (s .0))
 rebuild-once = equation
 
@@ -36,3 +42,6 @@ couple-once = equation
 
 pub retain-once : Only inner.retain (λ _ _ s. now (s .0))
 retain-once = equation
+
+pub xdwriteread-once : Only inner.xdwriteread (λ _ r s. now (s .0) & now (s .1 .1 .1 .1 .1 .0) & r)
+xdwriteread-once = from (λ _ _ _ _ p. p .0 and p .1 and p .2)

@@ -29,6 +29,9 @@ int-once = bounded
 pub list-sec-once : Only command.Command.list_sec.Reads.Post (λ _ r _. r)
 list-sec-once = bounded
 
+pub disable-once : Only command.Command.disable.Reads.Post (λ _ r _. r)
+disable-once = bounded
+
 pub own-once : Only command.Command.own.Reads.Post (λ _ r _. r)
 own-once = bounded
 

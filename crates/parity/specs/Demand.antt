@@ -4,6 +4,7 @@ use native.Mathlib.Omega.{arith}
 use mathlib.Core.Path.{_≡_, refl, sym, ap, ap₂, subst, fun-ext, _∙_}
 use mathlib.Core.List.{List, [], _∷_, _++_}
 use mathlib.Core.Option.{some}
+use lib.Dec.{eqb}
 use lib.ListN.{length, replicate}
 use Rattle.octets.specs.Xor.{_⊻_, xor-nil, xor-cancels}
 use Rattle.geometry.specs.declared.Geometry.{Geometry}
@@ -19,17 +20,19 @@ use Rattle.sums.specs.Length.{length-sum}
 use Rattle.sums.specs.OldBytes.{ZeroSums}
 use Rattle.sense.specs.declared.Answer.{Answer}
 use Rattle.meaning.specs.declared.Span.{Span}
-use Rattle.meaning.specs.declared.Act.the-variants.{XdRead}
+use Rattle.meaning.specs.declared.Act.the-variants.{XdRead, XdWriteRead}
 use Rattle.meaning.specs.Acts.{hands}
+use Rattle.meaning.specs.declared.Decision.{Decision}
 use Rattle.meaning.specs.declared.Decision.the-variants.{Go}
 use Rattle.meaning.specs.Step.{decided, stepImage, resetImage}
 use Rattle.meaning.specs.Calls.{Call, command, reset, marking, afterCall, afterCalls}
 use Rattle.licence.specs.Granted.{allowed-at}
+use Rattle.demands.specs.Leaves.{resultIn}
 use Rattle.demands.specs.Step.{step-shelf}
 use Rattle.demands.specs.Calls.{reset-shelf, reset-front, mark-shelf, mark-address}
 use Rattle.demands.specs.Retained.{newest-handed}
 use Rattle.callers.specs.Next.{step-front}
-use Rattle.parity.specs.Ledger.{Line, notedCall, FairCall, ledgerTo, FairTo, fair-front, ledger, Fair}
+use Rattle.parity.specs.Ledger.{Read, Line, line, noted, notedBy, notedCall, FairCall, ledgerTo, FairTo, ledger-after, fair-front, ledger, Fair}
 use Rattle.parity.specs.Owed.{owed, owed-none, owed-nothing, length-owed}
 use Rattle.parity.specs.Waiting.{waiting, waiting-none}
 use Rattle.parity.specs.AnyStep.{theStep, callBy, Start, SumsDiffer, Whole, Overwriting, rebuilt, BringsBack, Restores, Demand}
@@ -88,12 +91,24 @@ ledger-is-results m g start xs = run-tallies g xs m [] (start .valid) (waiting-n
 -- what XDREAD hands out is the newest unread line at its drive and block, whole
 pub read-is-newest : (m : List ℕ) (g : Geometry) → Start m g → (xs : List Call) (a : ℕ) (c s r : List ℕ) (x : Span) (i : ℕ) (y : Answer)
     → decided (afterCalls xs m) a c s r ≡ Go (XdRead x i) y
-    → (ρ : Result) × (firstOf (answers (x .drive) (x .block .0)) (waiting (ledger xs m)) ≡ some ρ) × (hands (afterCalls xs m) g (XdRead x i) ≡ ρ .bytes)
+    → (ρ : Result) × (firstOf (answers (x .drive) (x .block .0)) (waiting (ledger xs m)) ≡ some ρ) × (hands (afterCalls xs m) g s (XdRead x i) ≡ ρ .bytes)
 read-is-newest m g start xs a c s r x i y e =
     let t = afterCalls xs m in
     let h = run-shelf g xs m (start .valid) in
     let w = newest-handed t g h s (length r) x i (allowed-at t g h a c s (length r) (XdRead x i) y e) in
     (resultAt t g i, ap (firstOf (answers (x .drive) (x .block .0))) (ledger-is-results m g start xs) ∙ w .0, w .1)
+
+-- what a 53h hands out is the line that it leaves, read in the same step
+pub exchange-is-read : (m : List ℕ) (g : Geometry) → Start m g → (xs : List Call) (a : ℕ) (c s r : List ℕ) (x : Span) (disable : ℕ) (y : Answer)
+    → decided (afterCalls xs m) a c s r ≡ Go (XdWriteRead x disable) y
+    → ledger (xs ++ command a c s r ∷ []) m
+    ≡ line (resultIn 1 x (hands (afterCalls xs m) g s (XdWriteRead x disable))) (eqb disable 0) Read ∷ ledger xs m
+exchange-is-read m g start xs a c s r x disable y e =
+    let t = afterCalls xs m in
+    let es = ledger xs m in
+    ledger-after afterCall xs (command a c s r ∷ []) m []
+    ∙ ap (λ (d : Decision). notedBy d t s es) e
+    ∙ ap (λ (k : Geometry). noted t k s (XdWriteRead x disable) es) (run-shelf g xs m (start .valid) .header)
 
 -- "each row's sum differs from its first value by exactly the XOR of such results not yet carried over, unread and dropped ones included"
 pub sums-differ : (m : List ℕ) (g : Geometry) → Start m g → (xs : List Call) → Fair xs m → (r : ℕ) → r < g .b

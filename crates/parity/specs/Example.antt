@@ -1,7 +1,7 @@
 -- The bench shelf of 01: a run that pays what it owes, a reset that leaves a row open for good, and a REBUILD after each. Assumes nothing.
 use Prim.Native.Nat.{ℕ, zero, suc}
 use native.Mathlib.Omega.{arith}
-use mathlib.Core.Bool.{true, false≢true}
+use mathlib.Core.Bool.{true, false, true≢false}
 use mathlib.Core.Path.{_≡_, refl, sym, ap, subst, _∙_}
 use mathlib.Core.Logic.{inl, inr, ⊎-elim}
 use mathlib.Core.List.{List, [], _∷_, _++_, List·Memᴰ, List·Memᴰ·head, List·Memᴰ·not-nil, List·Memᴰ·cases-cons, List·Permᴰ·nil, List·Permᴰ·cons, List·Permᴰ·swap}
@@ -15,6 +15,7 @@ use Rattle.octets.specs.Operands.{xorAll}
 use Rattle.octets.specs.Number.{num, toBe}
 use Rattle.rules.specs.Every.{every}
 use Rattle.rules.specs.All.{allBelow}
+use Rattle.rules.specs.Each.{EachIs, each-mem}
 use Rattle.rules.specs.Same.{sameList}
 use Rattle.rules.specs.Count.{countBelow}
 use Rattle.rules.specs.Least.{leastBelow}
@@ -67,9 +68,12 @@ paying =
 abbrev pub paidImage : List ℕ
 paidImage = shelfOf 0 (left result) fresh (four 0x11 0x22 0x33 0x44) (four 0xEE 0x22 0xCC 0x44)
 
--- a result of one block of drive 1 (index 0) at block 0
+-- a result of one block of a drive, by its index, at block 0; of drive 1
+abbrev pub resultOn : ℕ → List ℕ → Result
+resultOn drive bytes = record { kind = 1; drive = drive; block = 0; len = 1; bytes = bytes }
+
 abbrev pub ofFirst : List ℕ → Result
-ofFirst bytes = record { kind = 1; drive = 0; block = 0; len = 1; bytes = bytes }
+ofFirst bytes = resultOn 0 bytes
 
 abbrev pub paidLedger : List Line
 paidLedger = line (ofFirst result) true Carried ∷ []
@@ -94,15 +98,18 @@ pub run-computed :
 unfolding decideOf stepImage resetImage markImage validImage framedOk rangesOk offsetsOk tableOk statesOk newAddress addressesOk slotsOk eachOk ranksOk slotOk slotOf slotAt place every allBelow sameList countBelow leastBelow driveOf emptySlot newestOf bestOf better released lowered lowerOne dropped droppedTo dropOne marked bytesOf part put num toBe _⊻_ xorAll opOf sixteenOf tenOf rowSum summedTo owed keeping share
 run-computed = (refl, refl, refl, refl, refl, refl)
 
--- block 0 of drive 3
+-- block 0 of drive 3, and bytes to it by XPWRITE, C1h or 51h
 abbrev pub third : Span
 third = record { drive = 2; block = record { 0 = 0 }; count = 1 }
 
+abbrev pub carryBy : ℕ → List ℕ → Call
+carryBy code sent = command 3 (ten code 0 1) sent room
+
 -- a line that is read can be carried there
-pub carries : (es : List Line) → List·Memᴰ (line (ofFirst result) true Read) es → Carries es third result
-carries es m =
+pub carries : (drive : ℕ) (bytes : List ℕ) (es : List Line) → List·Memᴰ (line (resultOn drive bytes) true Read) es → Carries es third bytes
+carries drive bytes es m =
     record {
-      one = line (ofFirst result) true Read;
+      one = line (resultOn drive bytes) true Read;
       listed = m;
       owed = refl;
       read = refl;
@@ -113,7 +120,7 @@ carries es m =
 
 -- its XPWRITE carries the result
 pub carried : Carries (line (ofFirst result) true Read ∷ []) third result
-carried = carries (line (ofFirst result) true Read ∷ []) (List·Memᴰ·head refl)
+carried = carries 0 result (line (ofFirst result) true Read ∷ []) (List·Memᴰ·head refl)
 
 -- it is a run of the demand
 pub losing-fair : Fair losing bench
@@ -129,10 +136,9 @@ bench-zero zero lo hi = refl
 bench-zero (suc zero) lo hi = refl
 bench-zero (suc (suc r)) lo hi = absurd (omega arith)
 
-none-owed : NothingOwed benchShape 0 2 paidLedger
-none-owed e m t r lo hi =
-    ⊎-elim (λ (q : e ≡ line (ofFirst result) true Carried). absurd (false≢true (sym (ap isOwed q) ∙ t)))
-    (λ k. absurd (List·Memᴰ·not-nil k)) (List·Memᴰ·cases-cons m)
+-- no line is owed, in no row
+pub none-owed : (es : List Line) → EachIs (λ (e : Line). isOwed e ≡ false) es → NothingOwed benchShape 0 2 es
+none-owed es h e m t r lo hi = absurd (true≢false (sym t ∙ each-mem _ es h e m))
 
 -- three drives, each present
 pub present : (m : List ℕ) → getD m 32 0 ≡ 0 → getD m 36 0 ≡ 0 → getD m 40 0 ≡ 0 → AllPresent m benchShape
@@ -148,7 +154,7 @@ paying-whole =
       bytes = small-octets bench refl;
       fair = fair-front afterCall paying (command 1 (xdwrite 0x06) zeros room ∷ reset 1 ∷ []) bench [] losing-fair;
       began-zero = bench-zero;
-      nothing-owed = subst (NothingOwed benchShape 0 2) (sym (run-computed .1)) none-owed;
+      nothing-owed = subst (NothingOwed benchShape 0 2) (sym (run-computed .1)) (none-owed paidLedger (refl, tt));
       all-present = subst (λ (m : List ℕ). AllPresent m benchShape) (sym (run-computed .0)) (present paidImage refl refl refl);
     }
 

@@ -1,8 +1,9 @@
--- The ledger of a run: every result that a command left, newest first, and what became of it. Assumes nothing.
+-- The ledger of a run: every result that a command left, newest first, and what became of it; the codes of 01 and of 02, A1, keep one
+-- ledger. Assumes nothing.
 use Prim.Native.Nat.{ℕ}
 use mathlib.Core.Bool.{Bool, true, false, cond}
 use mathlib.Core.List.{List, [], _∷_, _++_, List·Memᴰ}
-use mathlib.Core.Path.{_≡_}
+use mathlib.Core.Path.{_≡_, refl}
 use lib.Dec.{eqb}
 use Rattle.octets.specs.Xor.{_⊻_}
 use Rattle.rules.specs.Every.{every}
@@ -14,20 +15,20 @@ use Rattle.results.specs.Results.{Result}
 use Rattle.results.specs.Newest.{answers}
 use Rattle.meaning.specs.declared.Span.{Span}
 use Rattle.meaning.specs.declared.Act.{Act}
-use Rattle.meaning.specs.declared.Act.the-variants.{Read as ToRead, Write, XpWrite, XdRead, Couple, Retain, Rebuild, Regenerate}
+use Rattle.meaning.specs.declared.Act.the-variants.{Read as ToRead, Write, XpWrite, XdRead, Couple, Retain, Rebuild, Regenerate, XdWriteRead}
 use Rattle.meaning.specs.declared.Decision.{Decision}
 use Rattle.meaning.specs.declared.Decision.the-variants.{Stop, Go}
 use Rattle.meaning.specs.Acts.{blocksOf, resultOf, gathered}
 use Rattle.meaning.specs.Checks.{calls}
 use Rattle.meaning.specs.Step.{decided, untouched, target}
-use Rattle.meaning.specs.Calls.{Call, command, reset, marking, afterCall}
+use Rattle.meaning.specs.Calls.{Call, command, reset, marking, afterCall, runTo}
 use Rattle.demands.specs.Leaves.{resultIn}
 
--- it stands in a slot; XDREAD has read it; a reset has dropped it; XPWRITE has carried it over
+-- it stands in a slot; XDREAD has read it, or the XDWRITEREAD that left it; a reset has dropped it; XPWRITE has carried it over
 pub data Fate : Type 0 where
   Unread Read Dropped Carried : Fate
 
--- a result, whether a medium-changing XDWRITE left it, and what became of it
+-- a result, whether a medium-changing XDWRITE or XDWRITEREAD left it, and what became of it
 pub record Line : Type 0 where
   pub result : Result
   pub owes : Bool
@@ -86,7 +87,8 @@ carriable x sent e =
     ∷ sameList (e .result .bytes) sent
     ∷ [])
 
--- what an act changes: "a medium-changing XDWRITE" has NDisc 0; of lines that are alike XPWRITE carries one, no matter which
+-- what an act changes: "a medium-changing XDWRITE" has NDisc 0, or DISABLE WRITE 0; of lines that are alike XPWRITE carries one, no matter
+-- which. A1: "a 53h that writes opens a result and reads it in one step"
 abbrev pub noted : List ℕ → Geometry → List ℕ → Act → List Line → List Line
 noted m g sent (ToRead x) es = es
 noted m g sent (Write x) es = es
@@ -96,6 +98,8 @@ noted m g sent (Couple x y mirror) es = es
 noted m g sent (Retain x i mirror ndisc) es = line (resultIn 1 x (resultOf m g x mirror sent)) (eqb ndisc 0) Unread ∷ es
 noted m g sent (Rebuild x n int) es = es
 noted m g sent (Regenerate x n int i) es = line (resultIn 2 x (blocksOf m g x ⊻ gathered m g sent (x .count) n int)) false Unread ∷ es
+-- the bytes that it hands to the room
+noted m g sent (XdWriteRead x disable) es = line (resultIn 1 x (sent ⊻ blocksOf m g x)) (eqb disable 0) Read ∷ es
 
 -- a command that is not carried out leaves the ledger
 abbrev pub notedBy : Decision → List ℕ → List ℕ → List Line → List Line
@@ -109,7 +113,7 @@ notedCall (marking a state) m es = es
 
 -- ---- what a run may hold
 
--- a line of the ledger is the data sent, at its own blocks: left by a medium-changing XDWRITE, read, and not yet carried
+-- a line of the ledger is the data sent, at its own blocks: left by a medium-changing XDWRITE or XDWRITEREAD, read, and not yet carried
 pub record Carries (es : List Line) (x : Span) (sent : List ℕ) : Type 0 where
   pub one : Line
   pub listed : List·Memᴰ one es
@@ -120,7 +124,8 @@ pub record Carries (es : List Line) (x : Span) (sent : List ℕ) : Type 0 where
   pub same-bytes : one .result .bytes ≡ sent
 
 -- "no plain write, mirror write or REBUILD, let coupled writes name equal block numbers, and let each accepted XPWRITE carry, once, a
--- result left by a medium-changing XDWRITE and read by XDREAD, at its own blocks"
+-- result left by a medium-changing XDWRITE and read by XDREAD, at its own blocks"; A1: "In demand 3 a 53h that writes opens a result and
+-- reads it in one step." Nothing is asked of it: it has no Mirror
 abbrev pub FairAct : List Line → List ℕ → Act → Type 0
 FairAct es sent (ToRead x) = Unit {0}
 FairAct es sent (Write x) = ⊥
@@ -130,6 +135,7 @@ FairAct es sent (Couple x y mirror) = (mirror ≡ 0) × (x .block .0 ≡ y .bloc
 FairAct es sent (Retain x i mirror ndisc) = ndisc ≡ 0 → mirror ≡ 0
 FairAct es sent (Rebuild x n int) = ⊥
 FairAct es sent (Regenerate x n int i) = Unit {0}
+FairAct es sent (XdWriteRead x disable) = Unit {0}
 
 -- asked only of a command that is carried out
 abbrev pub FairBy : Decision → List Line → List ℕ → Type 0
@@ -151,6 +157,12 @@ module _ (after : Call → List ℕ → List ℕ) where
   abbrev pub FairTo : List Call → List ℕ → List Line → Type 0
   FairTo [] m es = Unit {0}
   FairTo (x ∷ xs) m es = FairCall x m es × FairTo xs (after x m) (notedCall x m es)
+
+  -- a run after another begins with what that one left
+  pub ledger-after : (xs ys : List Call) (m : List ℕ) (es : List Line)
+      → ledgerTo (xs ++ ys) m es ≡ ledgerTo ys (runTo after xs m) (ledgerTo xs m es)
+  ledger-after [] ys m es = refl
+  ledger-after (x ∷ xs) ys m es = ledger-after xs ys (after x m) (notedCall x m es)
 
   -- every first part of such a run is such a run
   pub fair-front : (xs ys : List Call) (m : List ℕ) (es : List Line) → FairTo (xs ++ ys) m es → FairTo xs m es

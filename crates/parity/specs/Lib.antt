@@ -8,4 +8,5 @@ pub mod Restores
 pub mod Demand
 pub mod Example
 pub mod Once
+pub mod Published
 pub mod ShutOut

@@ -1,8 +1,7 @@
 -- The bench shelf: two results with the same bytes, both owed while the row's sum is zero; each is carried once. Assumes nothing.
-use mathlib.Core.Bool.{true, false≢true}
-use mathlib.Core.Path.{_≡_, refl, sym, ap, _∙_}
-use mathlib.Core.Logic.{⊎-elim}
-use mathlib.Core.List.{List, [], _∷_, _++_, List·Memᴰ·head, List·Memᴰ·tail, List·Memᴰ·not-nil, List·Memᴰ·cases-cons}
+use mathlib.Core.Bool.{true}
+use mathlib.Core.Path.{_≡_, refl}
+use mathlib.Core.List.{List, [], _∷_, _++_, List·Memᴰ·head, List·Memᴰ·tail}
 use Rattle.octets.specs.Part.{part}
 use Rattle.octets.specs.Put.{put}
 use Rattle.octets.specs.Xor.{_⊻_}
@@ -29,9 +28,9 @@ use Rattle.meaning.specs.Checks.{decideOf}
 use Rattle.meaning.specs.Step.{stepImage}
 use Rattle.meaning.specs.Calls.{Call, command, afterCalls}
 use Rattle.meaning.specs.Cases.{xdwrite, ten, room}
-use Rattle.parity.specs.Ledger.{Fate, Read, Carried, Line, line, isRead, Carries, Fair, ledger}
-use Rattle.parity.specs.Owed.{owed}
-use Rattle.parity.specs.Example.{ofFirst, third, carries}
+use Rattle.parity.specs.Ledger.{Fate, Read, Carried, Line, line, Fair, ledger}
+use Rattle.parity.specs.Owed.{owed, carries-none}
+use Rattle.parity.specs.Example.{ofFirst, third, carryBy, carries}
 
 -- drive 1 gets new data and then its old block back; both results are read
 abbrev pub twice : List Call
@@ -44,7 +43,7 @@ twice =
 
 -- the result, to drive 3
 abbrev pub carry : Call
-carry = command 3 (ten 0xC1 0 1) result room
+carry = carryBy 0xC1 result
 
 abbrev pub pair : Fate → Fate → List Line
 pair newer older = line (ofFirst result) true newer ∷ line (ofFirst result) true older ∷ []
@@ -64,16 +63,9 @@ twice-computed = (refl, refl, refl, refl, refl, refl, refl)
 pub twice-fair : Fair (twice ++ carry ∷ carry ∷ []) bench
 unfolding decideOf stepImage validImage framedOk rangesOk offsetsOk tableOk statesOk newAddress addressesOk slotsOk eachOk ranksOk slotOk slotOf slotAt place every allBelow sameList countBelow leastBelow driveOf emptySlot newestOf bestOf better released lowered lowerOne bytesOf part put num toBe _⊻_ xorAll opOf sixteenOf tenOf
 twice-fair =
-    ((λ e. refl), (tt, ((λ e. refl), (tt, (carries (pair Read Read) (List·Memᴰ·head refl), (carries (pair Carried Read) (List·Memᴰ·tail (List·Memᴰ·head refl)), tt))))))
+    ((λ e. refl), (tt, ((λ e. refl), (tt, (carries 0 result (pair Read Read) (List·Memᴰ·head refl), (carries 0 result (pair Carried Read) (List·Memᴰ·tail (List·Memᴰ·head refl)), tt))))))
 
 -- a third time there is nothing to carry
-spent : Carries (pair Carried Carried) third result → ⊥
-spent c =
-    let not-read : (e : Line) → e .fate ≡ Carried → c .one ≡ e → ⊥ = (λ e k q. false≢true (sym (ap isRead (ap (λ (x : Line). x .fate) q ∙ k)) ∙ ap isRead (c .read))) in
-    ⊎-elim (not-read _ refl)
-    (λ m. ⊎-elim (not-read _ refl) (λ k. List·Memᴰ·not-nil k) (List·Memᴰ·cases-cons m))
-    (List·Memᴰ·cases-cons (c .listed))
-
 pub thrice-not : Fair (twice ++ carry ∷ carry ∷ carry ∷ []) bench → ⊥
 unfolding decideOf stepImage validImage framedOk rangesOk offsetsOk tableOk statesOk newAddress addressesOk slotsOk eachOk ranksOk slotOk slotOf slotAt place every allBelow sameList countBelow leastBelow driveOf emptySlot newestOf bestOf better released lowered lowerOne bytesOf part put num toBe _⊻_ xorAll opOf sixteenOf tenOf
-thrice-not f = spent (f .1 .1 .1 .1 .1 .1 .0)
+thrice-not f = carries-none third result (pair Carried Carried) (refl, (refl, tt)) (f .1 .1 .1 .1 .1 .1 .0)

@@ -2,16 +2,15 @@
 -- Assumes nothing.
 use Prim.Native.Nat.{ℕ, _*_, _≤_, _<_}
 use native.Mathlib.Omega.{arith}
-use mathlib.Core.Bool.{Bool, true, false, _&&_, cond, true≢false}
+use mathlib.Core.Bool.{Bool, true, false, cond, and-true}
 use mathlib.Core.Path.{_≡_, refl, sym, ap, ap₂, _∙_}
-use mathlib.Core.Logic.{inr, ⊎-elim}
+use mathlib.Core.Logic.{inr}
 use mathlib.Core.List.{List, [], _∷_}
 use lib.Dec.{eqb}
 use lib.ListN.{length}
 use borrow.Author.Tests.{eq-eqb, eqb-true}
-use Rattle.octets.specs.Put.{put}
+use Rattle.octets.specs.Put.{put, put-nil}
 use Rattle.octets.specs.Xor.{_⊻_, length-xor-le, xor-commutes, xor-regroups, xor-cancels, xor-meets, xor-again}
-use Rattle.rules.specs.Cases.{either}
 use Rattle.geometry.specs.declared.Geometry.{Geometry}
 use Rattle.geometry.specs.Header.{place}
 use Rattle.geometry.specs.Frame.{Framed}
@@ -28,16 +27,16 @@ use Rattle.sums.specs.Share.{share, length-share}
 use Rattle.sums.specs.Change.{sum-same, sum-put}
 use Rattle.meaning.specs.declared.Span.{Span}
 use Rattle.meaning.specs.declared.Act.{Act}
-use Rattle.meaning.specs.declared.Act.the-variants.{Read as ToRead, Write, XpWrite, XdRead, Couple, Retain, Rebuild, Regenerate}
-use Rattle.meaning.specs.Acts.{spanAt, blocksOf, resultOf, leaves}
+use Rattle.meaning.specs.declared.Act.the-variants.{Read as ToRead, Write, XpWrite, XdRead, Couple, Retain, Rebuild, Regenerate, XdWriteRead}
+use Rattle.meaning.specs.Acts.{spanAt, blocksOf, leaves}
+use Rattle.meaning.specs.Stores.{stored-alone}
 use Rattle.meaning.specs.Allowed.{Blocks, Filled, Allowed}
 use Rattle.meaning.specs.Lengths.{span-after-media, length-blocks}
-use Rattle.demands.specs.Leaves.{resultIn}
 use Rattle.demands.specs.Beside.{Beside, retain-beside, leaves-beside}
 use Rattle.demands.specs.Retained.{afterwards, results-after}
 use Rattle.parity.specs.Ledger.{Unread, Line, line, noted, Carries, FairAct}
-use Rattle.parity.specs.Owed.{owed, owed-hit, owed-miss, owed-read, owed-carried}
-use Rattle.parity.specs.Waiting.{waiting, waiting-hit, waiting-read, waiting-carried}
+use Rattle.parity.specs.Owed.{isOwed, inRow, owed, owed-hit, owed-miss, owed-read, owed-carried}
+use Rattle.parity.specs.Waiting.{waiting, waiting-hit, waiting-miss, waiting-read, waiting-carried}
 
 module _ (m : List ℕ) (g : Geometry) (h : Shelf m g) (sent : List ℕ) (es : List Line) where
   pub act-waiting : (room : ℕ) (act : Act) → Allowed m g sent room act → waiting es ≡ results m g
@@ -56,6 +55,7 @@ module _ (m : List ℕ) (g : Geometry) (h : Shelf m g) (sent : List ℕ) (es : L
       pick (Retain x i mirror ndisc) al = more _ _
       pick (Rebuild x n int) al = e
       pick (Regenerate x n int i) al = more _ _
+      pick (XdWriteRead x disable) al = waiting-miss _ es refl ∙ e
 
   -- ---- sums
 
@@ -112,30 +112,40 @@ module _ (m : List ℕ) (g : Geometry) (h : Shelf m g) (sent : List ℕ) (es : L
         ∙ ap (λ (k : ℕ). (sum ⊻ share g (x .block .0) (u ⊻ sent) r) ⊻ share g k (u ⊻ sent) r) (sym eb)
         ∙ xor-cancels sum (share g (x .block .0) (u ⊻ sent) r) (length-δ x (u ⊻ sent))
 
+    -- data written over blocks, or not, and a line that owes the old bytes XOR the new ones where it is
+    data-sum : (x : Span) (writes : Bool) (one : Line) → Blocks m g x → Filled g x sent → isOwed one ≡ writes
+        → (writes ≡ true → inRow g r one ≡ share g (x .block .0) (blocksOf m g x ⊻ sent) r)
+        → rowSum (put m (spanAt g x) (cond writes sent [])) g r ⊻ owed g r (one ∷ es) ≡ sum ⊻ owed g r es
+    data-sum x true one b e t δ =
+        let u = blocksOf m g x in
+        ap₂ _⊻_ (written-sum x sent b e) (owed-hit g r one es t ∙ ap (λ (o : List ℕ). o ⊻ owed g r es) (δ refl))
+        ∙ xor-meets sum (share g (x .block .0) (u ⊻ sent) r) (owed g r es) (length-δ x (u ⊻ sent))
+    data-sum x false one b e t δ = ap₂ _⊻_ (ap (λ (w : List ℕ). rowSum w g r) (put-nil m (spanAt g x))) (owed-miss g r one es t)
+
     -- the data written, the result in its slot: the slot is no part of a sum
-    retain-sum : (room : ℕ) (x : Span) (i mirror ndisc : ℕ) → Allowed m g sent room (Retain x i mirror ndisc) → eqb ndisc 0 ≡ true
-        → rowSum (leaves m g sent (Retain x i mirror ndisc)) g r ≡ rowSum (put m (spanAt g x) sent) g r
-    retain-sum room x i mirror ndisc al q =
+    retain-sum : (room : ℕ) (x : Span) (i mirror ndisc : ℕ) → Allowed m g sent room (Retain x i mirror ndisc)
+        → rowSum (leaves m g sent (Retain x i mirror ndisc)) g r ≡ rowSum (put m (spanAt g x) (cond (eqb ndisc 0) sent [])) g r
+    retain-sum room x i mirror ndisc al =
         sum-same (put m (spanAt g x) (cond (eqb ndisc 0) sent [])) (leaves m g sent (Retain x i mirror ndisc)) g r
         (λ d ld. retain-beside m g h sent (place g d r) (g .l) room x i mirror ndisc al (inr (place-after-media g d r)))
-        ∙ ap (λ (c : Bool). rowSum (put m (spanAt g x) (cond c sent [])) g r) q
 
     xd-sum : (room : ℕ) (x : Span) (i mirror ndisc : ℕ) → Allowed m g sent room (Retain x i mirror ndisc) → (ndisc ≡ 0 → mirror ≡ 0)
         → rowSum (leaves m g sent (Retain x i mirror ndisc)) g r ⊻ owed g r (noted m g sent (Retain x i mirror ndisc) es) ≡ sum ⊻ owed g r es
     xd-sum room x i mirror ndisc al fair =
         let u = blocksOf m g x in
-        let res = resultOf m g x mirror sent in
-        let one = line (resultIn 1 x res) (eqb ndisc 0) Unread in
-        ⊎-elim
-        (λ (t : eqb ndisc 0 ≡ true).
-        let plain : res ≡ u ⊻ sent = ap (λ (c : Bool). cond c (sent ⊻ u) sent) (eq-eqb mirror 0 (fair (eqb-true ndisc 0 t))) ∙ xor-commutes sent u in
-        ap₂ _⊻_ (retain-sum room x i mirror ndisc al t ∙ written-sum x sent (al .0) (al .1))
-        (owed-hit g r one es (ap (λ (c : Bool). c && true) t) ∙ ap (λ (ys : List ℕ). share g (x .block .0) ys r ⊻ owed g r es) plain)
-        ∙ xor-meets sum (share g (x .block .0) (u ⊻ sent) r) (owed g r es) (length-δ x (u ⊻ sent)))
-        (λ (t : eqb ndisc 0 ≡ false).
-        ap₂ _⊻_ (quiet room (Retain x i mirror ndisc) al (λ a n l. (inr l, λ k. absurd (true≢false (sym k ∙ t)))))
-        (owed-miss g r one es (ap (λ (c : Bool). c && true) t)))
-        (either (eqb ndisc 0))
+        let now = owed g r (noted m g sent (Retain x i mirror ndisc) es) in
+        ap (λ (o : List ℕ). o ⊻ now) (retain-sum room x i mirror ndisc al)
+        ∙ data-sum x (eqb ndisc 0) _ (al .0) (al .1) (and-true (eqb ndisc 0))
+        (λ t. ap (λ (ys : List ℕ). share g (x .block .0) ys r)
+        (ap (λ (c : Bool). cond c (sent ⊻ u) sent) (eq-eqb mirror 0 (fair (eqb-true ndisc 0 t))) ∙ xor-commutes sent u))
+
+    exchange-sum : (room : ℕ) (x : Span) (disable : ℕ) → Allowed m g sent room (XdWriteRead x disable)
+        → rowSum (leaves m g sent (XdWriteRead x disable)) g r ⊻ owed g r (noted m g sent (XdWriteRead x disable) es) ≡ sum ⊻ owed g r es
+    exchange-sum room x disable al =
+        let now = owed g r (noted m g sent (XdWriteRead x disable) es) in
+        ap (λ (t : List ℕ). rowSum t g r ⊻ now) (stored-alone m g x disable sent)
+        ∙ data-sum x (eqb disable 0) _ (al .0) (al .1) (and-true (eqb disable 0))
+        (λ t. ap (λ (ys : List ℕ). share g (x .block .0) ys r) (xor-commutes sent (blocksOf m g x)))
 
     -- sum and what is owed, together, stay
     pub act-sum : (room : ℕ) (act : Act) → Allowed m g sent room act → FairAct es sent act
@@ -153,3 +163,4 @@ module _ (m : List ℕ) (g : Geometry) (h : Shelf m g) (sent : List ℕ) (es : L
     act-sum room (Rebuild x n int) al fair = absurd fair
     act-sum room (Regenerate x n int i) al fair =
         ap₂ _⊻_ (quiet room (Regenerate x n int i) al (λ a n l. inr l)) (owed-miss g r _ es refl)
+    act-sum room (XdWriteRead x disable) al fair = exchange-sum room x disable al

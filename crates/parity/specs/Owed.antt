@@ -11,6 +11,7 @@ use Rattle.octets.specs.Xor.{_⊻_, nil-xor, length-xor, xor-commutes, xor-regr
 use Rattle.octets.specs.Operands.{xorAll}
 use Rattle.rules.specs.Cases.{either}
 use Rattle.rules.specs.Every.{holds, every-of}
+use Rattle.rules.specs.Each.{EachIs, each-mem}
 use Rattle.rules.specs.Same.{sameList, same-list, same-self}
 use Rattle.geometry.specs.declared.Geometry.{Geometry}
 use Rattle.results.specs.Lists.{keeping, keep-hit, keep-miss}
@@ -106,6 +107,21 @@ module _ (g : Geometry) (r : ℕ) where
 
 -- ---- a line carried
 
+module _ (x : Span) (sent : List ℕ) (es : List Line) where
+  carries-passes : (c : Carries es x sent) → carriable x sent (c .one) ≡ true
+  carries-passes c =
+      every-of _ (
+        c .owed,
+        (
+          ap isRead (c .read),
+          (eq-eqb _ _ (c .same-block), (eq-eqb _ _ (c .same-len), (ap (λ (ys : List ℕ). sameList ys sent) (c .same-bytes) ∙ same-self sent, tt))),
+        ),
+      )
+
+  -- where no line passes, there is nothing to carry
+  pub carries-none : EachIs (λ (e : Line). carriable x sent e ≡ false) es → Carries es x sent → ⊥
+  carries-none h c = true≢false (sym (carries-passes c) ∙ each-mem _ es h (c .one) (c .listed))
+
 module _ (g : Geometry) (r : ℕ) (x : Span) (sent : List ℕ) where
   read-is : (f : Fate) → isRead f ≡ true → isCarried f ≡ false
   read-is Unread t = absurd (true≢false (sym t))
@@ -143,16 +159,6 @@ module _ (g : Geometry) (r : ℕ) (x : Span) (sent : List ℕ) where
       ∙ sym (owed-cons g r e es)))
       (either (carriable x sent e))
 
-  carries-passes : (es : List Line) (c : Carries es x sent) → carriable x sent (c .one) ≡ true
-  carries-passes es c =
-      every-of _ (
-        c .owed,
-        (
-          ap isRead (c .read),
-          (eq-eqb _ _ (c .same-block), (eq-eqb _ _ (c .same-len), (ap (λ (ys : List ℕ). sameList ys sent) (c .same-bytes) ∙ same-self sent, tt))),
-        ),
-      )
-
   pub owed-carried : (es : List Line) → Carries es x sent
       → share g (x .block .0) sent r ⊻ owed g r (onFirst (carriable x sent) (become Carried) es) ≡ owed g r es
-  owed-carried es c = paid (c .one) (carries-passes es c) es (c .listed)
+  owed-carried es c = paid (c .one) (carries-passes x sent es c) es (c .listed)

@@ -37,7 +37,7 @@ use Rattle.command.specs.Command.{opOf, sixteenOf, tenOf, listedOf, ownOf, reso
 use Rattle.command.specs.Lossless.{cdbOf}
 use Rattle.meaning.specs.declared.Span.{Span}
 use Rattle.meaning.specs.declared.Act.{Act}
-use Rattle.meaning.specs.declared.Act.the-variants.{Read as ToRead, Write, XpWrite, XdRead, Couple, Retain, Rebuild, Regenerate}
+use Rattle.meaning.specs.declared.Act.the-variants.{Read as ToRead, Write, XpWrite, XdRead, Couple, Retain, Rebuild, Regenerate, XdWriteRead}
 use Rattle.meaning.specs.declared.Decision.{Decision}
 use Rattle.meaning.specs.declared.Decision.the-variants.{Stop, Go}
 use Rattle.meaning.specs.Acts.{spanAt, blocksOf, passedOn, sourcesFrom, gathered, leaves}
@@ -45,7 +45,7 @@ use Rattle.meaning.specs.Sources.{ownEntry, driveBad, entryBad, firstBad}
 use Rattle.meaning.specs.Checks.{decideOf}
 use Rattle.meaning.specs.Step.{decided, stepOutcome}
 use Rattle.meaning.specs.Calls.{Call, command}
-use Rattle.meaning.specs.Cases.{xdwrite, ten, room}
+use Rattle.meaning.specs.Cases.{xdwrite, tenSaid, ten, room}
 use Rattle.parity.specs.Owed.{owed}
 use Rattle.parity.specs.AnyStep.{AnyStep, done, callBy, Start, SumsDiffer, AllPresent, Whole, Restores}
 use Rattle.parity.specs.Example.{bench-start, bench-zero, present, carried, junk, both-rows}
@@ -125,36 +125,30 @@ leftBy f (Go act x) m s = f m (geometryOf m) s act
 abbrev pub actingBy : Acting → AnyStep
 actingBy f m a c s r = done (leftBy f (decided m a c s r) m s) (stepOutcome m a c s r .answer)
 
--- another REBUILD, coupled write or XPWRITE; what the others leave is y
+-- another REBUILD, coupled write, XPWRITE and XDWRITEREAD; what the others leave is y
+abbrev instead : (Span → ℕ → ℕ → List ℕ) → (Span → Span → ℕ → List ℕ) → (Span → List ℕ) → (Span → ℕ → List ℕ) → List ℕ → Act → List ℕ
+instead rebuild couple xpwrite exchange y (ToRead x) = y
+instead rebuild couple xpwrite exchange y (Write x) = y
+instead rebuild couple xpwrite exchange y (XpWrite x) = xpwrite x
+instead rebuild couple xpwrite exchange y (XdRead x i) = y
+instead rebuild couple xpwrite exchange y (Couple x z mirror) = couple x z mirror
+instead rebuild couple xpwrite exchange y (Retain x i mirror ndisc) = y
+instead rebuild couple xpwrite exchange y (Rebuild x n int) = rebuild x n int
+instead rebuild couple xpwrite exchange y (Regenerate x n int i) = y
+instead rebuild couple xpwrite exchange y (XdWriteRead x disable) = exchange x disable
+
+-- one of these alone
 abbrev onRebuild : (Span → ℕ → ℕ → List ℕ) → List ℕ → Act → List ℕ
-onRebuild f y (ToRead x) = y
-onRebuild f y (Write x) = y
-onRebuild f y (XpWrite x) = y
-onRebuild f y (XdRead x i) = y
-onRebuild f y (Couple x z mirror) = y
-onRebuild f y (Retain x i mirror ndisc) = y
-onRebuild f y (Rebuild x n int) = f x n int
-onRebuild f y (Regenerate x n int i) = y
+onRebuild f y = instead f (λ x z mirror. y) (λ x. y) (λ x disable. y) y
 
 abbrev onCouple : (Span → Span → ℕ → List ℕ) → List ℕ → Act → List ℕ
-onCouple f y (ToRead x) = y
-onCouple f y (Write x) = y
-onCouple f y (XpWrite x) = y
-onCouple f y (XdRead x i) = y
-onCouple f y (Couple x z mirror) = f x z mirror
-onCouple f y (Retain x i mirror ndisc) = y
-onCouple f y (Rebuild x n int) = y
-onCouple f y (Regenerate x n int i) = y
+onCouple f y = instead (λ x n int. y) f (λ x. y) (λ x disable. y) y
 
 abbrev onXpWrite : (Span → List ℕ) → List ℕ → Act → List ℕ
-onXpWrite f y (ToRead x) = y
-onXpWrite f y (Write x) = y
-onXpWrite f y (XpWrite x) = f x
-onXpWrite f y (XdRead x i) = y
-onXpWrite f y (Couple x z mirror) = y
-onXpWrite f y (Retain x i mirror ndisc) = y
-onXpWrite f y (Rebuild x n int) = y
-onXpWrite f y (Regenerate x n int i) = y
+onXpWrite f y = instead (λ x n int. y) (λ x z mirror. y) f (λ x disable. y) y
+
+abbrev onExchange : (Span → ℕ → List ℕ) → List ℕ → Act → List ℕ
+onExchange f y = instead (λ x n int. y) (λ x z mirror. y) (λ x. y) f y
 
 -- a list but for its element i
 abbrev pub sansAt : ℕ → List (List ℕ) → List (List ℕ)
@@ -213,3 +207,20 @@ storing-not h =
     let x = h bench benchShape bench-start calls ((λ e. refl), (tt, (carried, tt))) 0 (lit≤ tt) in
     let z : _≡_ {A = ℕ} 0x0B 0 = ap (λ (l : List ℕ). getD l 0 0) x in
     omega arith
+
+-- an XDWRITEREAD that takes DISABLE WRITE for d, whatever its CDB says: with 0 it always writes, with 1 it never does
+abbrev pub heedless : ℕ → Acting
+heedless d s g sent act = onExchange (λ x disable. leaves s g sent (XdWriteRead x d)) (leaves s g sent act) act
+
+-- a sum that changes with nothing owed; one that stays with a result owed
+pub heedless-not : (d : ℕ) → d < 2 → SumsDiffer (callBy (actingBy (heedless d))) → ⊥
+unfolding decideOf stepOutcome validImage framedOk rangesOk offsetsOk tableOk statesOk newAddress addressesOk slotsOk eachOk ranksOk slotOk slotOf slotAt place every allBelow countBelow leastBelow driveOf part put num toBe _⊻_ xorAll opOf tenOf rowSum summedTo owed keeping share
+heedless-not zero l h =
+    let x = h bench benchShape bench-start (command 1 (tenSaid 0x53 0x04 0 1) fresh room ∷ []) (tt, tt) 0 (lit≤ tt) in
+    let z : _≡_ {A = ℕ} 0xF5 0 = ap (λ (l : List ℕ). getD l 0 0) x in
+    omega arith
+heedless-not (suc zero) l h =
+    let x = h bench benchShape bench-start (command 1 (ten 0x53 0 1) fresh room ∷ []) (tt, tt) 0 (lit≤ tt) in
+    let z : _≡_ {A = ℕ} 0 0xF5 = ap (λ (l : List ℕ). getD l 0 0) x in
+    omega arith
+heedless-not (suc (suc d)) l h = absurd (omega arith)

@@ -68,7 +68,7 @@ pub told-long : (m : List ℕ) (a : ℕ) (c s r : List ℕ) (o : Outcome) (m′ 
 unfolding stepOutcome
 told-long m a c s r o m′ r′ h = ap (λ (t : Outcome). length (t .sense .bytes)) (h .outcome) ∙ pick (decided m a c s r)
   where
-    pick : (d : Decision) → length (outcomeAfter d m .sense .bytes) ≡ 37
+    pick : (d : Decision) → length (outcomeAfter d m s .sense .bytes) ≡ 37
     pick (Stop n w x) = sound x .bytes-long
     pick (Go act x) = sound x .bytes-long
 

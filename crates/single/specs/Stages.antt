@@ -1,5 +1,5 @@
--- The checks of READ, WRITE, XPWRITE and XDREAD cut into the stages that the code takes. What a stage reads from the image is a
--- plain value for the next. Assumes nothing.
+-- The checks of READ, WRITE, XPWRITE, XDREAD, XDWRITE(10) and XDWRITEREAD(10) cut into the stages that the code takes. What a stage reads
+-- from the image is a plain value for the next. Assumes nothing.
 use Prim.Native.Nat.{ℕ, _*_}
 use mathlib.Core.Bool.{not}
 use mathlib.Core.List.{List, [], _∷_, _++_}
@@ -10,10 +10,12 @@ use Rattle.rules.specs.Rule.{rule, first}
 use Rattle.rules.specs.Least.{index}
 use Rattle.geometry.specs.declared.Geometry.{Geometry}
 use Rattle.slots.specs.Record.{slotOf}
-use Rattle.slots.specs.Find.{newestOf}
-use Rattle.sense.specs.declared.Answer.the-variants.{Good, WrongCount, BadField}
+use Rattle.slots.specs.Find.{emptySlot, newestOf}
+use Rattle.sense.specs.declared.Answer.the-variants.{Good, Busy, WrongCount, BadField}
 use Rattle.command.specs.declared.Command.{Command}
-use Rattle.meaning.specs.declared.Act.the-variants.{Read, Write, XpWrite, XdRead}
+use Rattle.command.specs.Command.{disableOf}
+use Rattle.meaning.specs.declared.Span.{Span}
+use Rattle.meaning.specs.declared.Act.the-variants.{Read, Write, XpWrite, XdRead, Retain, XdWriteRead}
 use Rattle.meaning.specs.declared.Seen.the-variants.{Dash, Cdb}
 use Rattle.meaning.specs.declared.Decision.{Decision}
 use Rattle.meaning.specs.declared.Decision.the-variants.{Stop, Go}
@@ -39,8 +41,12 @@ readOf g t k s r = first Stop (zeroSix k) (plainStage 0 g k s (roomyOf g k r (Go
 unfoldable pub writeOf : Geometry → ℕ → Command → List ℕ → Decision
 writeOf g t k s = first Stop (zeroSix k) (plainStage (k .count * g .l) g k s (Go (Write (spanOf t k)) Good))
 
+-- a command that sends its blocks, and no more of them than a slot holds
+unfoldable pub cappedStage : Geometry → Command → List ℕ → Decision → Decision
+cappedStage g k s d = first Stop (zeroSix k ++ aboveM 7 g k) (plainStage (k .count * g .l) g k s d)
+
 unfoldable pub xpwriteOf : Geometry → ℕ → Command → List ℕ → Decision
-xpwriteOf g t k s = first Stop (zeroSix k ++ aboveM 7 g k) (plainStage (k .count * g .l) g k s (Go (XpWrite (spanOf t k)) Good))
+xpwriteOf g t k s = cappedStage g k s (Go (XpWrite (spanOf t k)) Good)
 
 -- ---- XDREAD
 
@@ -56,3 +62,15 @@ unfoldable pub xdreadOf : List ℕ → Geometry → ℕ → Command → List ℕ
 xdreadOf m g t k s r =
     first Stop (zeroSix k ++ zeroControl 9 k ++ rule 5 Dash (not (eqb (length s) 0)) WrongCount ∷ [])
     (matchedOf (newestOf m g t (k .block .0)) m g t k r)
+
+-- ---- XDWRITE(10) and XDWRITEREAD(10)
+
+-- f is the slot that takes the result of the blocks of x; XDWRITE with Sec Ctl 11 retains so too
+unfoldable pub retainedOf : Found → Span → ℕ → ℕ → Decision
+retainedOf f x mirror ndisc = first Stop (rule 9 Dash (isNothing f) Busy ∷ []) (Go (Retain x (index f) mirror ndisc) Good)
+
+unfoldable pub xdwriteTenOf : List ℕ → Geometry → ℕ → Command → List ℕ → Decision
+xdwriteTenOf m g t k s = cappedStage g k s (retainedOf (emptySlot m g) (spanOf t k) 0 (disableOf k))
+
+unfoldable pub xdwritereadOf : Geometry → ℕ → Command → List ℕ → ℕ → Decision
+xdwritereadOf g t k s r = cappedStage g k s (roomyOf g k r (Go (XdWriteRead (spanOf t k) (disableOf k)) Good))

@@ -1,7 +1,9 @@
-// 01's checks 4 to 11 of READ, WRITE, XPWRITE and XDREAD, but for the bits of byte 1 that must be zero.
-// Each function goes by its checks in 01's order and hands the rest to the next.
+// 01's checks 4 to 11 of READ, WRITE, XPWRITE, XDREAD, XDWRITE(10) and XDWRITEREAD(10), but for the bits
+// of byte 1 that must be zero. Each function goes by its checks in 01's order and hands the rest to the
+// next.
 mod newest;
 mod plain;
+mod xdwrite;
 
 use command::Command;
 use geometry::Geometry;
@@ -13,6 +15,9 @@ pub use plain::read;
 pub use plain::write;
 pub use plain::xpwrite;
 use sense::Answer;
+pub use xdwrite::retained;
+pub use xdwrite::xdwrite_ten;
+pub use xdwrite::xdwriteread;
 ghost use mathlib.Core.Path.{_≡_};
 ghost use Rattle.geometry.specs.Frame.{InRange};
 ghost use Rattle.command.specs.Command.{Fits};

@@ -8,7 +8,7 @@ use sense::Answer;
 ghost use mathlib.Core.Path.{_≡_};
 ghost use Rattle.geometry.specs.Frame.{InRange};
 ghost use Rattle.command.specs.Command.{Fits};
-ghost use Rattle.single.specs.Stages.{plainStage, readOf, writeOf, xpwriteOf};
+ghost use Rattle.single.specs.Stages.{plainStage, cappedStage, readOf, writeOf, xpwriteOf};
 
 pub fn read(g: Geometry, t: usize, k: Command, sent: &[u8], room: usize) -> Decision
     requires { ⌜ InRange g × Fits k ⌝ }
@@ -43,6 +43,19 @@ pub fn xpwrite(g: Geometry, t: usize, k: Command, sent: &[u8]) -> Decision
     requires { ⌜ InRange g × Fits k ⌝ }
     ensures { λ r. ⌜ r ≡ xpwriteOf g t k (now (sent .entry)) ⌝ }
 {
+    capped(
+        g,
+        k,
+        sent,
+        Decision::Go(Act::XpWrite(crate::span(t, k)), Answer::Good),
+    )
+}
+
+// The blocks are sent, no more of them than a slot holds; where no check applies `go` stands.
+pub fn capped(g: Geometry, k: Command, sent: &[u8], go: Decision) -> Decision
+    requires { ⌜ InRange g × Fits k ⌝ }
+    ensures { λ r. ⌜ r ≡ cappedStage g k (now (sent .entry)) go ⌝ }
+{
     let six = k.six;
     let count = k.count;
     let limit = g.m;
@@ -52,13 +65,7 @@ pub fn xpwrite(g: Geometry, t: usize, k: Command, sent: &[u8]) -> Decision
     if limit < count {
         return Decision::Stop(4, Seen::Cdb(7), Answer::BadField);
     }
-    plain(
-        count * g.l,
-        g,
-        k,
-        sent,
-        Decision::Go(Act::XpWrite(crate::span(t, k)), Answer::Good),
-    )
+    plain(count * g.l, g, k, sent, go)
 }
 
 // From the last byte on: `due` bytes are sent, and where no check applies `go` stands.

@@ -54,9 +54,11 @@ fn check_good(image: &[u8], step: &StepCall, outcome: &StepOutcome, good: Good) 
     assert_eq!(outcome.sense[..37], [0; 37], "{good:?}");
     assert_eq!(outcome.sense[37..], step.sense[37..], "{good:?}");
     let count = match good {
-        Good::Read | Good::FetchedXdWrite | Good::FetchedRegenerate => {
-            number(&step.cdb[7..9]) * field(image, 2)
-        }
+        Good::Read
+        | Good::FetchedXdWrite
+        | Good::FetchedRegenerate
+        | Good::XorHanded
+        | Good::XorHandedOnly => number(&step.cdb[7..9]) * field(image, 2),
         _ => 0,
     };
     assert_eq!(outcome.count, Some(count as u32), "{good:?}");
@@ -99,7 +101,10 @@ fn named_blocks(image: &[u8], step: &StepCall, good: Good) -> Vec<Range<usize>> 
     let target = drive(image, step.target);
     let at = |place: Range<usize>| number(&step.cdb[place]);
     match good {
-        Write | XorWrite => vec![blocks(image, target, at(2..6), at(7..9))],
+        Write | XorWrite | XorHanded => vec![blocks(image, target, at(2..6), at(7..9))],
+        XorRetained if step.cdb[0] == 0x50 => {
+            vec![blocks(image, target, at(2..6), at(7..9))]
+        }
         XorRetained | MirrorRetained => vec![blocks(image, target, at(2..6), at(6..8))],
         XorSent | MirrorSent => {
             let secondary = drive(image, at(8..11) as u32);

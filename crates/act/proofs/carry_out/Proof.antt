@@ -61,6 +61,13 @@ regenerate-requires c κs =
     let act8 = c .before .before .act8 in
     (pre .0, allowed-as (args .image .now) (args .g) (args .sent .now) (args .act) _ (act8 .given .1) _ (pre .1), few-as (args .image .now) (args .g) (args .sent .now) (args .act) _ (act8 .given .1) (pre .2))
 
+xdwriteread-requires : tie.Need-xdwriteread-requires
+xdwriteread-requires c κs =
+    let pre = c .before .before .before .before .before .before .before .before .pre in
+    let args = c .before .before .before .before .before .before .before .before .args in
+    let act9 = c .before .before .before .act9 in
+    (pre .0, allowed-as (args .image .now) (args .g) (args .sent .now) (args .act) _ (act9 .given .1) _ (pre .1))
+
 returns : tie.Need-returns
 returns c =
     let args = c .before .before .before .before .before .before .before .before .before .before .before .args in
@@ -117,6 +124,13 @@ returns-8 c =
     let regenerate = c .before .before .regenerate in
     done-quietly (args .image .now) (args .g) (args .sent .now) (args .act) _ (act8 .given .1) _ _ (regenerate .ensures) refl
 
+returns-9 : tie.Need-returns-9
+returns-9 c =
+    let args = c .before .before .before .before .before .before .before .before .before .before .before .before .before .args in
+    let act9 = c .before .before .before .before .before .before .before .before .act9 in
+    let xdwriteread = c .before .before .before .before .xdwriteread in
+    done-as (args .image .now) (args .g) (args .sent .now) (args .act) _ (act9 .given .1) _ _ _ _ (xdwriteread .ensures .0) (xdwriteread .ensures .1) (xdwriteread .ensures .2)
+
 pub carry-out-spec : {M : Type 1} → statement M
 carry-out-spec =
     tie.close
@@ -138,6 +152,8 @@ carry-out-spec =
     (λ c. search needs)
     regenerate-requires
     (λ c. search needs)
+    xdwriteread-requires
+    (λ c. search needs)
     (λ c. search needs)
     returns
     (λ c. search needs)
@@ -154,4 +170,7 @@ carry-out-spec =
     (λ c. search needs)
     returns-7
     (λ c. search needs)
-    returns-8)
+    returns-8
+    (λ c. search needs)
+    (λ c. search needs)
+    returns-9)

@@ -24,19 +24,7 @@ returns-5 : tie.Need-returns-5
 unfolding opOf
 returns-5 c = search tests
 
-returns-6 : tie.Need-returns-6
-unfolding opOf
-returns-6 c = search tests
-
-returns-7 : tie.Need-returns-7
-unfolding opOf
-returns-7 c = search tests
-
-returns-8 : tie.Need-returns-8
-unfolding opOf
-returns-8 c = search tests
-
 pub op-of-spec : {M : Type 1} → statement M
 op-of-spec =
     tie.close
-    (tie.spec returns returns-2 returns-3 returns-4 returns-5 returns-6 returns-7 returns-8)
+    (tie.spec returns returns-2 returns-3 returns-4 (λ c κs. tt) returns-5)

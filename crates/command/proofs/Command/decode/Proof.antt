@@ -27,7 +27,13 @@ ten-requires-4 : tie.Need-ten-requires-4
 ten-requires-4 c κs = c .before .before .before .pre .0 ∙ ap sizeOf (c .enum-told7 .given .1)
 
 ten-requires-5 : tie.Need-ten-requires-5
-ten-requires-5 c κs = absurd (c .before .before .before .pre .1 (ap sizeOf (c .enum-told8 .given .1)))
+ten-requires-5 c κs = c .before .before .before .pre .0 ∙ ap sizeOf (c .enum-told8 .given .1)
+
+ten-requires-6 : tie.Need-ten-requires-6
+ten-requires-6 c κs = c .before .before .before .pre .0 ∙ ap sizeOf (c .enum-told9 .given .1)
+
+ten-requires-7 : tie.Need-ten-requires-7
+ten-requires-7 c κs = absurd (c .before .before .before .pre .1 (ap sizeOf (c .enum-told10 .given .1)))
 
 returns : tie.Need-returns
 returns c = (c .sixteen .ensures .0 ∙ rw (c .before .enum-told .given .1), c .sixteen .ensures .1)
@@ -53,6 +59,12 @@ returns-7 c = (c .ten4 .ensures .0 ∙ rw (c .before .enum-told7 .given .1), c .
 returns-8 : tie.Need-returns-8
 returns-8 c = (c .ten5 .ensures .0 ∙ rw (c .before .enum-told8 .given .1), c .ten5 .ensures .1)
 
+returns-9 : tie.Need-returns-9
+returns-9 c = (c .ten6 .ensures .0 ∙ rw (c .before .enum-told9 .given .1), c .ten6 .ensures .1)
+
+returns-10 : tie.Need-returns-10
+returns-10 c = (c .ten7 .ensures .0 ∙ rw (c .before .enum-told10 .given .1), c .ten7 .ensures .1)
+
 pub decode-spec : {M : Type 1} → statement M
 decode-spec =
     tie.close
@@ -73,6 +85,10 @@ decode-spec =
     ten-requires-4
     (λ c. search needs)
     ten-requires-5
+    (λ c. search needs)
+    ten-requires-6
+    (λ c. search needs)
+    ten-requires-7
     returns
     returns-2
     returns-3
@@ -80,4 +96,6 @@ decode-spec =
     returns-5
     returns-6
     returns-7
-    returns-8)
+    returns-8
+    returns-9
+    returns-10)

@@ -11,7 +11,7 @@ returns c = (cc, search needs)
 pub sixteen-spec : {M : Type 1} → statement M
 sixteen-spec =
     tie.close
-    (tie.spec
+    (tie.spec (λ c κs. search needs)
     (λ c κs. search needs)
     (λ c κs. search needs)
     (λ c κs. search needs)

@@ -56,14 +56,32 @@ returns-7 c =
 
 returns-8 : tie.Need-returns-8
 returns-8 c =
+    let xdwrite-ten = c .xdwrite-ten in
+    let args = c .before .before .before .before .before .args in
+    let enum-told8 = c .before .enum-told8 in
+    xdwrite-ten .ensures ∙ told (args .image .now) (args .g) (args .t) (args .k) (args .sent .now) (args .room) _ _ (enum-told8 .given .1)
+
+returns-9 : tie.Need-returns-9
+returns-9 c =
+    let xdwriteread = c .xdwriteread in
+    let args = c .before .before .before .before .before .args in
+    let enum-told9 = c .before .enum-told9 in
+    xdwriteread .ensures ∙ told (args .image .now) (args .g) (args .t) (args .k) (args .sent .now) (args .room) _ _ (enum-told9 .given .1)
+
+returns-10 : tie.Need-returns-10
+returns-10 c =
     let args = c .before .before .before .before .args in
-    let enum-told8 = c .enum-told8 in
-    told (args .image .now) (args .g) (args .t) (args .k) (args .sent .now) (args .room) _ _ (enum-told8 .given .1)
+    let enum-told10 = c .enum-told10 in
+    told (args .image .now) (args .g) (args .t) (args .k) (args .sent .now) (args .room) _ _ (enum-told10 .given .1)
 
 pub each-spec : {M : Type 1} → statement M
 each-spec =
     tie.close
     (tie.spec
+    (λ c. search needs)
+    (λ c κs. search needs)
+    (λ c. search needs)
+    (λ c κs. search needs)
     (λ c. search needs)
     (λ c κs. search needs)
     (λ c. search needs)
@@ -86,4 +104,6 @@ each-spec =
     returns-5
     returns-6
     returns-7
-    returns-8)
+    returns-8
+    returns-9
+    returns-10)
