@@ -28,7 +28,7 @@ use Rattle.image.specs.Bench.{zeros, shelfOf, vacant, holding, one, two, three,
 use Rattle.command.specs.declared.Op.the-variants.{XpWrite}
 use Rattle.command.specs.Lossless.{cdbOf}
 use Rattle.meaning.specs.Allowed.{Blocks}
-use Rattle.meaning.specs.Cases.{parity, left, xdwrite, tenSaid, ten, listCdb, head, sourceBytes, room}
+use Rattle.meaning.specs.Cases.{parity, left, xdwrite, tenWith, ten, listCdb, head, sourceBytes, room}
 use Rattle.callers.specs.Bytes.{readCdb, writeCdb, xpwriteCdb, xdreadCdb, xdwriteTenCdb, xdwritereadCdb, xdwriteCdb, rebuildCdb, regenerateCdb, codes-say}
 use Rattle.callers.specs.Lists.{source, listOf}
 use Rattle.callers.specs.Does.{blocks, Does, Target}
@@ -50,8 +50,8 @@ pub bytes-are :
     × (xpwriteCdb 0x51 0 9 0 ≡ ten 0x51 9 0)
     × (xdreadCdb 0xC2 0 1 ≡ ten 0xC2 0 1)
     × (xdreadCdb 0x52 0 1 ≡ ten 0x52 0 1)
-    × (xdwriteTenCdb 0x1C 0 1 ≡ tenSaid 0x50 0x1C 0 1)
-    × (xdwritereadCdb 0x1C 0 1 ≡ tenSaid 0x53 0x1C 0 1)
+    × (xdwriteTenCdb 0x1C 0 1 ≡ tenWith 0x50 0x1C 0 1)
+    × (xdwritereadCdb 0x1C 0 1 ≡ tenWith 0x53 0x1C 0 1)
     × (xdwriteCdb 0x06 0 1 3 0 ≡ xdwrite 0x06)
     × (rebuildCdb 0 1 2 ≡ listCdb 0xC3 0x18)
     × (regenerateCdb 0 1 1 ≡ listCdb 0xC4 0x10)
@@ -152,7 +152,7 @@ c11 = idle-does bench benchShape 1 0 first 9 (lit≤ tt) room 0xC1 0 XpWrite (co
 pub published :
     Does bench 1 (ten 0x50 0 1) fresh room 0 afterC2 room
     × Does bench 1 (ten 0x53 0 1) fresh room 4 (shelfOf 0 vacant fresh two three) (result ++ replicate 4 0xAA)
-    × Does bench 1 (tenSaid 0x53 0x04 0 1) fresh room 4 bench (result ++ replicate 4 0xAA)
+    × Does bench 1 (tenWith 0x53 0x04 0 1) fresh room 4 bench (result ++ replicate 4 0xAA)
 unfolding cdbOf toBe emptySlot leastBelow slotOf slotAt bytesOf countBelow part num put place _⊻_
 published =
     let b = at bench 0 0 (lit≤ tt) (lit≤ tt) refl in (

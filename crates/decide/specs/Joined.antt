@@ -20,7 +20,7 @@ use Rattle.command.specs.Lossless.{command-op}
 use Rattle.meaning.specs.declared.Seen.the-variants.{Cdb, Drive}
 use Rattle.meaning.specs.declared.Decision.the-variants.{Stop}
 use Rattle.meaning.specs.Checks.{decideOf}
-use Rattle.single.specs.Stages.{roomyOf, plainStage, cappedStage, readOf, writeOf, xpwriteOf, xdreadOf, matchedOf, answeredOf, retainedOf, xdwriteTenOf, xdwritereadOf}
+use Rattle.single.specs.Stages.{roomyOf, plainStage, limitedStage, readOf, writeOf, xpwriteOf, xdreadOf, matchedOf, answeredOf, retainedOf, xdwriteTenOf, xdwritereadOf}
 use Rattle.double.specs.Stages.{secondedOf, reachedOf, settledOf, limitedOf, xdwriteOf}
 use Rattle.several.specs.Stages.{faultOr, rebuiltOf, gatheredOf, regeneratedOf, placedOf, lengthOf, ownedOf, headedOf, listSizedOf, countedOf, fieldsOf, rebuildOf, regenerateOf}
 use Rattle.decide.specs.Called.{Addressed, addressed-found}
@@ -42,7 +42,7 @@ module _ (m : List ℕ) (g : Geometry) (t : ℕ) (k : Command) (s : List ℕ) (r
   as-regenerate = refl
 
   pub joined : (o : Op) → (sizeOf o ≡ 0 → ⊥) → flaggedOf o m g t k s r ≡ checkedOf o m g t k s r
-  unfolding flaggedOf checkedOf readOf writeOf xpwriteOf cappedStage plainStage roomyOf xdreadOf matchedOf answeredOf xdwriteTenOf xdwritereadOf retainedOf
+  unfolding flaggedOf checkedOf readOf writeOf xpwriteOf limitedStage plainStage roomyOf xdreadOf matchedOf answeredOf xdwriteTenOf xdwritereadOf retainedOf
   joined XdWrite h = as-xdwrite
   joined XpWrite h = refl
   joined XdRead h = refl

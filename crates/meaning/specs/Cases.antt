@@ -19,11 +19,11 @@ left bytes = replicate 16 0 ++ bytes ++ zeros
 abbrev pub xdwrite : ℕ → List ℕ
 xdwrite flags = 0xC0 ∷ flags ∷ 0 ∷ 0 ∷ 0 ∷ 0 ∷ 0 ∷ 1 ∷ 0 ∷ 0 ∷ 3 ∷ replicate 5 0
 
-abbrev pub tenSaid : ℕ → ℕ → ℕ → ℕ → List ℕ
-tenSaid code flags block n = code ∷ flags ∷ 0 ∷ 0 ∷ 0 ∷ block ∷ 0 ∷ 0 ∷ n ∷ 0 ∷ []
+abbrev pub tenWith : ℕ → ℕ → ℕ → ℕ → List ℕ
+tenWith code flags block n = code ∷ flags ∷ 0 ∷ 0 ∷ 0 ∷ block ∷ 0 ∷ 0 ∷ n ∷ 0 ∷ []
 
 abbrev pub ten : ℕ → ℕ → ℕ → List ℕ
-ten code block n = tenSaid code 0 block n
+ten code block n = tenWith code 0 block n
 
 abbrev pub listCdb : ℕ → ℕ → List ℕ
 listCdb code n = code ∷ 0 ∷ 0 ∷ 0 ∷ 0 ∷ 1 ∷ 0 ∷ 0 ∷ n ∷ 0 ∷ []

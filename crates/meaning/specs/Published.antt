@@ -5,7 +5,7 @@ use lib.ListN.{replicate}
 use Rattle.image.specs.Bench.{zeros, shelfOf, vacant, holding, one, two, three, bench, fresh, result, afterC2}
 use Rattle.meaning.specs.Calls.{Call, command}
 use Rattle.meaning.specs.Row.{Row, quiet, refused}
-use Rattle.meaning.specs.Cases.{parity, left, xdwrite, tenSaid, ten, room, row, c2}
+use Rattle.meaning.specs.Cases.{parity, left, xdwrite, tenWith, ten, room, row, c2}
 
 -- block 0 of drive 1 written by 50h, and read by XDREAD of either set
 abbrev kept : Call
@@ -30,7 +30,7 @@ abbrev pub works : List Row
 works =
     -- "50h always retains": as C2 does; with DISABLE WRITE drive 1 stays
     row bench [] 1 (ten 0x50 0 1) fresh (quiet 0 0 afterC2 room)
-    ∷ row bench [] 1 (tenSaid 0x50 0x1C 0 1) fresh (quiet 0 0 (shelfOf 0 (holding 1 0 result) one two three) room)
+    ∷ row bench [] 1 (tenWith 0x50 0x1C 0 1) fresh (quiet 0 0 (shelfOf 0 (holding 1 0 result) one two three) room)
     -- "both sets share slots": no empty slot is left by either
     ∷ row bench (kept ∷ []) 1 (xdwrite 0x06) fresh (quiet 8 0 afterC2 room)
     ∷ row bench (c2 ∷ []) 1 (ten 0x50 0 1) fresh (quiet 8 0 afterC2 room)
@@ -39,10 +39,10 @@ works =
     ∷ row bench (kept ∷ []) 1 (ten 0xC2 0 1) [] (quiet 0 4 (shelfOf 0 (left result) fresh two three) handed)
     ∷ row bench (kept ∷ []) 1 (ten 0x52 0 1) [] (quiet 0 4 (shelfOf 0 (left result) fresh two three) handed)
     -- and 51h carries it over
-    ∷ row bench (kept ∷ readBy 0x52 ∷ []) 3 (tenSaid 0x51 0x18 0 1) result (quiet 0 0 (shelfOf 0 (left result) fresh two parity) room)
+    ∷ row bench (kept ∷ readBy 0x52 ∷ []) 3 (tenWith 0x51 0x18 0 1) result (quiet 0 0 (shelfOf 0 (left result) fresh two parity) room)
     -- 53h "puts the XOR in the receive room and counts it"; with DISABLE WRITE drive 1 stays
     ∷ row bench [] 1 (ten 0x53 0 1) fresh (quiet 0 4 (shelfOf 0 vacant fresh two three) handed)
-    ∷ row bench [] 1 (tenSaid 0x53 0x1C 0 1) fresh (quiet 0 4 bench handed)
+    ∷ row bench [] 1 (tenWith 0x53 0x1C 0 1) fresh (quiet 0 4 bench handed)
     -- it "takes no slot": it wants none, and leaves those that are taken
     ∷ row bench (kept ∷ []) 1 (ten 0x53 0 1) zeros (quiet 0 4 (shelfOf 0 (holding 1 0 result) zeros two three) (fresh ++ replicate 4 0xAA))
     -- "zero length is GOOD for 50h, 51h and 53h"
@@ -64,10 +64,10 @@ refusals =
     -- check 3
     ∷ row (shelfOf 1 vacant one two three) [] 3 (ten 0x53 0 1) fresh (refused 0x02 0x04 (shelfOf 1 vacant one two three) room)
     -- check 4: "other bits of byte 1 are zero"
-    ∷ refusal (tenSaid 0x50 0x20 0 1) fresh 0x05 0x24
-    ∷ refusal (tenSaid 0x51 0x04 0 1) fresh 0x05 0x24
-    ∷ refusal (tenSaid 0x52 0x10 0 1) [] 0x05 0x24
-    ∷ refusal (tenSaid 0x53 0x02 0 1) fresh 0x05 0x24
+    ∷ refusal (tenWith 0x50 0x20 0 1) fresh 0x05 0x24
+    ∷ refusal (tenWith 0x51 0x04 0 1) fresh 0x05 0x24
+    ∷ refusal (tenWith 0x52 0x10 0 1) [] 0x05 0x24
+    ∷ refusal (tenWith 0x53 0x02 0 1) fresh 0x05 0x24
     -- byte 6, and the last
     ∷ refusal (0x50 ∷ 0 ∷ 0 ∷ 0 ∷ 0 ∷ 0 ∷ 1 ∷ 0 ∷ 1 ∷ 0 ∷ []) fresh 0x05 0x24
     ∷ refusal (0x50 ∷ 0 ∷ 0 ∷ 0 ∷ 0 ∷ 0 ∷ 0 ∷ 0 ∷ 1 ∷ 1 ∷ []) fresh 0x05 0x24

@@ -18,8 +18,8 @@ write-once = equation
 pub xpwrite-once : Only single.xpwrite.Reads.Post (λ _ r _. r)
 xpwrite-once = equation
 
-pub capped-once : Only inner.capped (λ _ r _. r)
-capped-once = equation
+pub limited-once : Only inner.limited (λ _ r _. r)
+limited-once = equation
 
 pub xdwrite-ten-once : Only single.xdwrite_ten.Reads.Post (λ _ r _. r)
 xdwrite-ten-once = equation

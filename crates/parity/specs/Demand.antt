@@ -99,11 +99,11 @@ read-is-newest m g start xs a c s r x i y e =
     (resultAt t g i, ap (firstOf (answers (x .drive) (x .block .0))) (ledger-is-results m g start xs) ∙ w .0, w .1)
 
 -- what a 53h hands out is the line that it leaves, read in the same step
-pub exchange-is-read : (m : List ℕ) (g : Geometry) → Start m g → (xs : List Call) (a : ℕ) (c s r : List ℕ) (x : Span) (disable : ℕ) (y : Answer)
+pub xdwriteread-is-read : (m : List ℕ) (g : Geometry) → Start m g → (xs : List Call) (a : ℕ) (c s r : List ℕ) (x : Span) (disable : ℕ) (y : Answer)
     → decided (afterCalls xs m) a c s r ≡ Go (XdWriteRead x disable) y
     → ledger (xs ++ command a c s r ∷ []) m
     ≡ line (resultIn 1 x (hands (afterCalls xs m) g s (XdWriteRead x disable))) (eqb disable 0) Read ∷ ledger xs m
-exchange-is-read m g start xs a c s r x disable y e =
+xdwriteread-is-read m g start xs a c s r x disable y e =
     let t = afterCalls xs m in
     let es = ledger xs m in
     ledger-after afterCall xs (command a c s r ∷ []) m []

@@ -139,9 +139,9 @@ module _ (m : List ℕ) (g : Geometry) (h : Shelf m g) (sent : List ℕ) (es : L
         (λ t. ap (λ (ys : List ℕ). share g (x .block .0) ys r)
         (ap (λ (c : Bool). cond c (sent ⊻ u) sent) (eq-eqb mirror 0 (fair (eqb-true ndisc 0 t))) ∙ xor-commutes sent u))
 
-    exchange-sum : (room : ℕ) (x : Span) (disable : ℕ) → Allowed m g sent room (XdWriteRead x disable)
+    xdwriteread-sum : (room : ℕ) (x : Span) (disable : ℕ) → Allowed m g sent room (XdWriteRead x disable)
         → rowSum (leaves m g sent (XdWriteRead x disable)) g r ⊻ owed g r (noted m g sent (XdWriteRead x disable) es) ≡ sum ⊻ owed g r es
-    exchange-sum room x disable al =
+    xdwriteread-sum room x disable al =
         let now = owed g r (noted m g sent (XdWriteRead x disable) es) in
         ap (λ (t : List ℕ). rowSum t g r ⊻ now) (stored-alone m g x disable sent)
         ∙ data-sum x (eqb disable 0) _ (al .0) (al .1) (and-true (eqb disable 0))
@@ -163,4 +163,4 @@ module _ (m : List ℕ) (g : Geometry) (h : Shelf m g) (sent : List ℕ) (es : L
     act-sum room (Rebuild x n int) al fair = absurd fair
     act-sum room (Regenerate x n int i) al fair =
         ap₂ _⊻_ (quiet room (Regenerate x n int i) al (λ a n l. inr l)) (owed-miss g r _ es refl)
-    act-sum room (XdWriteRead x disable) al fair = exchange-sum room x disable al
+    act-sum room (XdWriteRead x disable) al fair = xdwriteread-sum room x disable al

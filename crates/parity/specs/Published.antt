@@ -30,7 +30,7 @@ use Rattle.command.specs.Command.{opOf, tenOf}
 use Rattle.meaning.specs.Checks.{decideOf}
 use Rattle.meaning.specs.Step.{stepImage}
 use Rattle.meaning.specs.Calls.{Call, command, afterCall, afterCalls}
-use Rattle.meaning.specs.Cases.{left, tenSaid, ten, room}
+use Rattle.meaning.specs.Cases.{left, tenWith, ten, room}
 use Rattle.parity.specs.Ledger.{Fate, Read, Carried, Line, line, fair-front, Fair, ledger}
 use Rattle.parity.specs.Owed.{owed, carries-none}
 use Rattle.parity.specs.AnyStep.{NothingOwed, AllPresent, Whole, theStep, rebuilt, BringsBack}
@@ -40,8 +40,8 @@ use Rattle.parity.specs.Example.{bench-start, resultOn, ofFirst, third, 
 -- ---- a run that pays
 
 -- data to block 0 of drive 1 by 53h, its byte 1 given
-abbrev pub exchange : ℕ → List ℕ → Call
-exchange flags sent = command 1 (tenSaid 0x53 flags 0 1) sent room
+abbrev pub xdwriteread : ℕ → List ℕ → Call
+xdwriteread flags sent = command 1 (tenWith 0x53 flags 0 1) sent room
 
 -- drive 2's result
 abbrev pub change : List ℕ
@@ -50,12 +50,12 @@ change = four 0x10 0x20 0x30 0x40
 -- 53h, and 51h carries its result; 50h to drive 2, 52h reads its result and C1h carries it; 53h with DISABLE WRITE, which owes nothing
 abbrev pub settling : List Call
 settling =
-    exchange 0x00 fresh
+    xdwriteread 0x00 fresh
     ∷ carryBy 0x51 result
     ∷ command 2 (ten 0x50 0 1) (four 0x11 0x22 0x33 0x44) room
     ∷ command 2 (ten 0x52 0 1) [] room
     ∷ carryBy 0xC1 change
-    ∷ exchange 0x04 zeros
+    ∷ xdwriteread 0x04 zeros
     ∷ []
 
 abbrev pub settledImage : List ℕ
@@ -66,16 +66,16 @@ settledLedger = line (ofFirst fresh) false Read ∷ line (resultOn 1 change) tru
 
 -- the last 53h once more, now without DISABLE WRITE: the same bytes are handed out, and they are owed
 abbrev pub owing : List Call
-owing = settling ++ exchange 0x00 zeros ∷ []
+owing = settling ++ xdwriteread 0x00 zeros ∷ []
 
 abbrev pub owingLedger : Fate → List Line
 owingLedger fate = line (ofFirst fresh) true fate ∷ settledLedger
 
 -- owed after the first 53h; nothing after them all; the last one's result, until C1h carries it
 pub published-computed :
-    (ledger (exchange 0x00 fresh ∷ []) bench ≡ line (ofFirst result) true Read ∷ [])
+    (ledger (xdwriteread 0x00 fresh ∷ []) bench ≡ line (ofFirst result) true Read ∷ [])
     × (owed benchShape 0 (line (ofFirst result) true Read ∷ []) ≡ result)
-    × (rowSum (afterCalls (exchange 0x00 fresh ∷ []) bench) benchShape 0 ≡ result)
+    × (rowSum (afterCalls (xdwriteread 0x00 fresh ∷ []) bench) benchShape 0 ≡ result)
     × (afterCalls settling bench ≡ settledImage)
     × (ledger settling bench ≡ settledLedger)
     × (owed benchShape 0 settledLedger ≡ [])
@@ -103,7 +103,7 @@ settling-whole =
     record {
       start = bench-start;
       bytes = small-octets bench refl;
-      fair = fair-front afterCall settling (exchange 0x00 zeros ∷ carryBy 0xC1 fresh ∷ []) bench [] owing-fair;
+      fair = fair-front afterCall settling (xdwriteread 0x00 zeros ∷ carryBy 0xC1 fresh ∷ []) bench [] owing-fair;
       began-zero = bench-zero;
       nothing-owed = subst (NothingOwed benchShape 0 2) (sym (published-computed .4)) (none-owed settledLedger (refl, (refl, (refl, tt))));
       all-present = subst (λ (m : List ℕ). AllPresent m benchShape) (sym (published-computed .3)) (present settledImage refl refl refl);

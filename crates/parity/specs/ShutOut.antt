@@ -45,7 +45,7 @@ use Rattle.meaning.specs.Sources.{ownEntry, driveBad, entryBad, firstBad}
 use Rattle.meaning.specs.Checks.{decideOf}
 use Rattle.meaning.specs.Step.{decided, stepOutcome}
 use Rattle.meaning.specs.Calls.{Call, command}
-use Rattle.meaning.specs.Cases.{xdwrite, tenSaid, ten, room}
+use Rattle.meaning.specs.Cases.{xdwrite, tenWith, ten, room}
 use Rattle.parity.specs.Owed.{owed}
 use Rattle.parity.specs.AnyStep.{AnyStep, done, callBy, Start, SumsDiffer, AllPresent, Whole, Restores}
 use Rattle.parity.specs.Example.{bench-start, bench-zero, present, carried, junk, both-rows}
@@ -127,15 +127,15 @@ actingBy f m a c s r = done (leftBy f (decided m a c s r) m s) (stepOutcome m a 
 
 -- another REBUILD, coupled write, XPWRITE and XDWRITEREAD; what the others leave is y
 abbrev instead : (Span → ℕ → ℕ → List ℕ) → (Span → Span → ℕ → List ℕ) → (Span → List ℕ) → (Span → ℕ → List ℕ) → List ℕ → Act → List ℕ
-instead rebuild couple xpwrite exchange y (ToRead x) = y
-instead rebuild couple xpwrite exchange y (Write x) = y
-instead rebuild couple xpwrite exchange y (XpWrite x) = xpwrite x
-instead rebuild couple xpwrite exchange y (XdRead x i) = y
-instead rebuild couple xpwrite exchange y (Couple x z mirror) = couple x z mirror
-instead rebuild couple xpwrite exchange y (Retain x i mirror ndisc) = y
-instead rebuild couple xpwrite exchange y (Rebuild x n int) = rebuild x n int
-instead rebuild couple xpwrite exchange y (Regenerate x n int i) = y
-instead rebuild couple xpwrite exchange y (XdWriteRead x disable) = exchange x disable
+instead rebuild couple xpwrite xdwriteread y (ToRead x) = y
+instead rebuild couple xpwrite xdwriteread y (Write x) = y
+instead rebuild couple xpwrite xdwriteread y (XpWrite x) = xpwrite x
+instead rebuild couple xpwrite xdwriteread y (XdRead x i) = y
+instead rebuild couple xpwrite xdwriteread y (Couple x z mirror) = couple x z mirror
+instead rebuild couple xpwrite xdwriteread y (Retain x i mirror ndisc) = y
+instead rebuild couple xpwrite xdwriteread y (Rebuild x n int) = rebuild x n int
+instead rebuild couple xpwrite xdwriteread y (Regenerate x n int i) = y
+instead rebuild couple xpwrite xdwriteread y (XdWriteRead x disable) = xdwriteread x disable
 
 -- one of these alone
 abbrev onRebuild : (Span → ℕ → ℕ → List ℕ) → List ℕ → Act → List ℕ
@@ -147,8 +147,8 @@ onCouple f y = instead (λ x n int. y) f (λ x. y) (λ x disable. y) y
 abbrev onXpWrite : (Span → List ℕ) → List ℕ → Act → List ℕ
 onXpWrite f y = instead (λ x n int. y) (λ x z mirror. y) f (λ x disable. y) y
 
-abbrev onExchange : (Span → ℕ → List ℕ) → List ℕ → Act → List ℕ
-onExchange f y = instead (λ x n int. y) (λ x z mirror. y) (λ x. y) f y
+abbrev onXdWriteRead : (Span → ℕ → List ℕ) → List ℕ → Act → List ℕ
+onXdWriteRead f y = instead (λ x n int. y) (λ x z mirror. y) (λ x. y) f y
 
 -- a list but for its element i
 abbrev pub sansAt : ℕ → List (List ℕ) → List (List ℕ)
@@ -210,13 +210,13 @@ storing-not h =
 
 -- an XDWRITEREAD that takes DISABLE WRITE for d, whatever its CDB says: with 0 it always writes, with 1 it never does
 abbrev pub heedless : ℕ → Acting
-heedless d s g sent act = onExchange (λ x disable. leaves s g sent (XdWriteRead x d)) (leaves s g sent act) act
+heedless d s g sent act = onXdWriteRead (λ x disable. leaves s g sent (XdWriteRead x d)) (leaves s g sent act) act
 
 -- a sum that changes with nothing owed; one that stays with a result owed
 pub heedless-not : (d : ℕ) → d < 2 → SumsDiffer (callBy (actingBy (heedless d))) → ⊥
 unfolding decideOf stepOutcome validImage framedOk rangesOk offsetsOk tableOk statesOk newAddress addressesOk slotsOk eachOk ranksOk slotOk slotOf slotAt place every allBelow countBelow leastBelow driveOf part put num toBe _⊻_ xorAll opOf tenOf rowSum summedTo owed keeping share
 heedless-not zero l h =
-    let x = h bench benchShape bench-start (command 1 (tenSaid 0x53 0x04 0 1) fresh room ∷ []) (tt, tt) 0 (lit≤ tt) in
+    let x = h bench benchShape bench-start (command 1 (tenWith 0x53 0x04 0 1) fresh room ∷ []) (tt, tt) 0 (lit≤ tt) in
     let z : _≡_ {A = ℕ} 0xF5 0 = ap (λ (l : List ℕ). getD l 0 0) x in
     omega arith
 heedless-not (suc zero) l h =

@@ -2,5 +2,5 @@
 use borrow.Fn.Kinds.{Out}
 use Rattle.single.proofs as single
 
-abbrev pub capped : Out 1 single.plain.capped.Kinds.ps single.plain.capped.Kinds.r
-capped = single.plain.capped.Reads.Post
+abbrev pub limited : Out 1 single.plain.limited.Kinds.ps single.plain.limited.Kinds.r
+limited = single.plain.limited.Reads.Post

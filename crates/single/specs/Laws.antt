@@ -17,14 +17,14 @@ use Rattle.meaning.specs.declared.Seen.the-variants.{Dash, Cdb}
 use Rattle.meaning.specs.declared.Decision.{Decision}
 use Rattle.meaning.specs.declared.Decision.the-variants.{Stop, Go}
 use Rattle.meaning.specs.Checks.{spanOf}
-use Rattle.single.specs.Stages.{roomyOf, plainStage, cappedStage, readOf, writeOf, xpwriteOf, retainedOf, xdwriteTenOf, xdwritereadOf, answeredOf, matchedOf}
+use Rattle.single.specs.Stages.{roomyOf, plainStage, limitedStage, readOf, writeOf, xpwriteOf, retainedOf, xdwriteTenOf, xdwritereadOf, answeredOf, matchedOf}
 
 -- ---- where the tests have passed
 
-pub capped-on : (g : Geometry) (k : Command) (s : List ℕ) (d : Decision) → k .six ≡ 0 → k .count ≤ g .m
-    → plainStage (k .count * g .l) g k s d ≡ cappedStage g k s d
-unfolding cappedStage
-capped-on g k s d six l = rw (eq-eqb (k .six) 0 six, le-ltb (g .m) (k .count) l)
+pub limited-on : (g : Geometry) (k : Command) (s : List ℕ) (d : Decision) → k .six ≡ 0 → k .count ≤ g .m
+    → plainStage (k .count * g .l) g k s d ≡ limitedStage g k s d
+unfolding limitedStage
+limited-on g k s d six l = rw (eq-eqb (k .six) 0 six, le-ltb (g .m) (k .count) l)
 
 module _ (g : Geometry) (t : ℕ) (k : Command) (x : Span) (h : x ≡ spanOf t k) where
   module _ (s : List ℕ) (six : k .six ≡ 0) where
@@ -40,16 +40,16 @@ module _ (g : Geometry) (t : ℕ) (k : Command) (x : Span) (h : x ≡ spanOf t k
   unfolding answeredOf
   answered-on i len r e = rw (h, eq-eqb len (k .count) e)
 
-  pub xpwrite-on : (s : List ℕ) → cappedStage g k s (Go (XpWrite x) Good) ≡ xpwriteOf g t k s
+  pub xpwrite-on : (s : List ℕ) → limitedStage g k s (Go (XpWrite x) Good) ≡ xpwriteOf g t k s
   unfolding xpwriteOf
   xpwrite-on s = rw h
 
   module _ (disable : ℕ) (q : disable ≡ disableOf k) (s : List ℕ) (d : Decision) where
-    pub xdwrite-ten-on : (m : List ℕ) → d ≡ retainedOf (emptySlot m g) x 0 disable → cappedStage g k s d ≡ xdwriteTenOf m g t k s
+    pub xdwrite-ten-on : (m : List ℕ) → d ≡ retainedOf (emptySlot m g) x 0 disable → limitedStage g k s d ≡ xdwriteTenOf m g t k s
     unfolding xdwriteTenOf
     xdwrite-ten-on m e = rw (e, h, q)
 
-    pub xdwriteread-on : (r : ℕ) → d ≡ roomyOf g k r (Go (XdWriteRead x disable) Good) → cappedStage g k s d ≡ xdwritereadOf g t k s r
+    pub xdwriteread-on : (r : ℕ) → d ≡ roomyOf g k r (Go (XdWriteRead x disable) Good) → limitedStage g k s d ≡ xdwritereadOf g t k s r
     unfolding xdwritereadOf
     xdwriteread-on r e = rw (e, h, q)
 

@@ -42,11 +42,11 @@ unfoldable pub writeOf : Geometry → ℕ → Command → List ℕ → Decision
 writeOf g t k s = first Stop (zeroSix k) (plainStage (k .count * g .l) g k s (Go (Write (spanOf t k)) Good))
 
 -- a command that sends its blocks, and no more of them than a slot holds
-unfoldable pub cappedStage : Geometry → Command → List ℕ → Decision → Decision
-cappedStage g k s d = first Stop (zeroSix k ++ aboveM 7 g k) (plainStage (k .count * g .l) g k s d)
+unfoldable pub limitedStage : Geometry → Command → List ℕ → Decision → Decision
+limitedStage g k s d = first Stop (zeroSix k ++ aboveM 7 g k) (plainStage (k .count * g .l) g k s d)
 
 unfoldable pub xpwriteOf : Geometry → ℕ → Command → List ℕ → Decision
-xpwriteOf g t k s = cappedStage g k s (Go (XpWrite (spanOf t k)) Good)
+xpwriteOf g t k s = limitedStage g k s (Go (XpWrite (spanOf t k)) Good)
 
 -- ---- XDREAD
 
@@ -70,7 +70,7 @@ unfoldable pub retainedOf : Found → Span → ℕ → ℕ → Decision
 retainedOf f x mirror ndisc = first Stop (rule 9 Dash (isNothing f) Busy ∷ []) (Go (Retain x (index f) mirror ndisc) Good)
 
 unfoldable pub xdwriteTenOf : List ℕ → Geometry → ℕ → Command → List ℕ → Decision
-xdwriteTenOf m g t k s = cappedStage g k s (retainedOf (emptySlot m g) (spanOf t k) 0 (disableOf k))
+xdwriteTenOf m g t k s = limitedStage g k s (retainedOf (emptySlot m g) (spanOf t k) 0 (disableOf k))
 
 unfoldable pub xdwritereadOf : Geometry → ℕ → Command → List ℕ → ℕ → Decision
-xdwritereadOf g t k s r = cappedStage g k s (roomyOf g k r (Go (XdWriteRead (spanOf t k) (disableOf k)) Good))
+xdwritereadOf g t k s r = limitedStage g k s (roomyOf g k r (Go (XdWriteRead (spanOf t k) (disableOf k)) Good))

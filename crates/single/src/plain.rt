@@ -8,7 +8,7 @@ use sense::Answer;
 ghost use mathlib.Core.Path.{_≡_};
 ghost use Rattle.geometry.specs.Frame.{InRange};
 ghost use Rattle.command.specs.Command.{Fits};
-ghost use Rattle.single.specs.Stages.{plainStage, cappedStage, readOf, writeOf, xpwriteOf};
+ghost use Rattle.single.specs.Stages.{plainStage, limitedStage, readOf, writeOf, xpwriteOf};
 
 pub fn read(g: Geometry, t: usize, k: Command, sent: &[u8], room: usize) -> Decision
     requires { ⌜ InRange g × Fits k ⌝ }
@@ -43,7 +43,7 @@ pub fn xpwrite(g: Geometry, t: usize, k: Command, sent: &[u8]) -> Decision
     requires { ⌜ InRange g × Fits k ⌝ }
     ensures { λ r. ⌜ r ≡ xpwriteOf g t k (now (sent .entry)) ⌝ }
 {
-    capped(
+    limited(
         g,
         k,
         sent,
@@ -52,9 +52,9 @@ pub fn xpwrite(g: Geometry, t: usize, k: Command, sent: &[u8]) -> Decision
 }
 
 // The blocks are sent, no more of them than a slot holds; where no check applies `go` stands.
-pub fn capped(g: Geometry, k: Command, sent: &[u8], go: Decision) -> Decision
+pub fn limited(g: Geometry, k: Command, sent: &[u8], go: Decision) -> Decision
     requires { ⌜ InRange g × Fits k ⌝ }
-    ensures { λ r. ⌜ r ≡ cappedStage g k (now (sent .entry)) go ⌝ }
+    ensures { λ r. ⌜ r ≡ limitedStage g k (now (sent .entry)) go ⌝ }
 {
     let six = k.six;
     let count = k.count;

@@ -18,7 +18,7 @@ pub fn xdwrite_ten(image: &[u8], g: Geometry, t: usize, k: Command, sent: &[u8])
     ensures { λ r. ⌜ r ≡ xdwriteTenOf (now (image .entry)) g t k (now (sent .entry)) ⌝ }
 {
     let go = retained(image, g, crate::span(t, k), 0, k.disable());
-    crate::plain::capped(g, k, sent, go)
+    crate::plain::limited(g, k, sent, go)
 }
 
 // It takes no slot: the room takes the result.
@@ -30,7 +30,7 @@ pub fn xdwriteread(g: Geometry, t: usize, k: Command, sent: &[u8], room: usize) 
         Act::XdWriteRead(crate::span(t, k), k.disable()),
         Answer::Good,
     );
-    crate::plain::capped(g, k, sent, crate::roomy(g, k, room, go))
+    crate::plain::limited(g, k, sent, crate::roomy(g, k, room, go))
 }
 
 // Check 9: the lowest-numbered empty slot takes the result of the blocks of x; ndisc is NDisc or

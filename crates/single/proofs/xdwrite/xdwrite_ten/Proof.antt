@@ -10,7 +10,7 @@ returns c =
     let span = c .before .before .before .span in
     let disable = c .before .before .disable in
     let retained = c .before .retained in
-    c .capped .ensures ∙ xdwrite-ten-on _ _ _ _ (span .ensures) _ (disable .ensures .0) _ _ _ (retained .ensures)
+    c .limited .ensures ∙ xdwrite-ten-on _ _ _ _ (span .ensures) _ (disable .ensures .0) _ _ _ (retained .ensures)
 
 pub xdwrite-ten-spec : {M : Type 1} → statement M
 xdwrite-ten-spec =

@@ -10,7 +10,7 @@ returns c =
     let span = c .before .before .before .span in
     let disable = c .before .before .disable in
     let roomy = c .before .roomy in
-    c .capped .ensures ∙ xdwriteread-on _ _ _ _ (span .ensures) _ (disable .ensures .0) _ _ _ (roomy .ensures)
+    c .limited .ensures ∙ xdwriteread-on _ _ _ _ (span .ensures) _ (disable .ensures .0) _ _ _ (roomy .ensures)
 
 pub xdwriteread-spec : {M : Type 1} → statement M
 xdwriteread-spec =
