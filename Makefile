@@ -1,8 +1,8 @@
 # `make` builds the library and runs its main job on the bench shelf; `make test` is the gate; `make bench` measures.
 all:
 	tools/native-lib
-	tools/c-example
-	@cat tests/c/example.out
+	$(CC) -std=c99 -O2 -Iinclude tests/c/example.c target/native/libshelf_c.a -o target/example
+	target/example
 
 test:
 	.ci/run

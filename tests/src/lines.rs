@@ -3,9 +3,10 @@
 use crate::through_c::{through_c, Empty};
 use second::{parse_line, Call, Case, Outcome, BAD_LINE};
 
-/// The answer to one line, by the C interface.
+/// The answer to one line, by the C interface, which has no row program.
 pub fn answer_line(line: &str) -> String {
-    let Some(case) = parse_line(line) else {
+    let case = parse_line(line).filter(|case| case.call != Call::Rows);
+    let Some(case) = case else {
         return BAD_LINE.to_string();
     };
     let mut image = case.image.clone();

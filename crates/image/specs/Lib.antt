@@ -3,4 +3,3 @@ pub mod Shelf
 pub mod Length
 pub mod Keeps
 pub mod Bench
-pub mod ShutOut

@@ -4,7 +4,7 @@ use mathlib.Core.List.{List, [], _∷_, _++_}
 use lib.ListN.{replicate}
 use Rattle.image.specs.Bench.{four, zeros, shelfOf, vacant, holding, one, two, three, bench, fresh, result, afterC2}
 use Rattle.meaning.specs.Calls.{Call, command}
-use Rattle.meaning.specs.Row.{Showed, Row, quiet, refused}
+use Rattle.meaning.specs.Row.{Showed, Row, quiet, refused, nested}
 
 -- drive 3's block with C1's result
 abbrev pub parity : List ℕ
@@ -14,10 +14,13 @@ parity = four 0xFE 0x02 0xFC 0x04
 abbrev pub left : List ℕ → List ℕ
 left bytes = replicate 16 0 ++ bytes ++ zeros
 
--- C0 with byte 1 given, block 0, length 1, secondary 3 at block 0; a 10-byte command at a block, with byte 1 given or zero; C3 and C4 of
--- length 1
+-- C0 with byte 1 given, block 0, length 1, a secondary and its block, or secondary 3 at block 0; a 10-byte command at a block, with byte 1
+-- given or zero; C3 and C4 with byte 1 given, of a length, or plain and of length 1
+abbrev pub xdwriteTo : ℕ → ℕ → ℕ → List ℕ
+xdwriteTo flags address block = 0xC0 ∷ flags ∷ 0 ∷ 0 ∷ 0 ∷ 0 ∷ 0 ∷ 1 ∷ 0 ∷ 0 ∷ address ∷ 0 ∷ 0 ∷ 0 ∷ block ∷ 0 ∷ []
+
 abbrev pub xdwrite : ℕ → List ℕ
-xdwrite flags = 0xC0 ∷ flags ∷ 0 ∷ 0 ∷ 0 ∷ 0 ∷ 0 ∷ 1 ∷ 0 ∷ 0 ∷ 3 ∷ replicate 5 0
+xdwrite flags = xdwriteTo flags 3 0
 
 abbrev pub tenWith : ℕ → ℕ → ℕ → ℕ → List ℕ
 tenWith code flags block n = code ∷ flags ∷ 0 ∷ 0 ∷ 0 ∷ block ∷ 0 ∷ 0 ∷ n ∷ 0 ∷ []
@@ -25,12 +28,18 @@ tenWith code flags block n = code ∷ flags ∷ 0 ∷ 0 ∷ 0 ∷ block ∷ 0 �
 abbrev pub ten : ℕ → ℕ → ℕ → List ℕ
 ten code block n = tenWith code 0 block n
 
-abbrev pub listCdb : ℕ → ℕ → List ℕ
-listCdb code n = code ∷ 0 ∷ 0 ∷ 0 ∷ 0 ∷ 1 ∷ 0 ∷ 0 ∷ n ∷ 0 ∷ []
+abbrev pub listWith : ℕ → ℕ → List ℕ → ℕ → List ℕ
+listWith code flags length n = code ∷ flags ∷ length ++ 0 ∷ 0 ∷ n ∷ 0 ∷ []
 
--- a list of n sources with own block 0, and a source at block 0
+abbrev pub listCdb : ℕ → ℕ → List ℕ
+listCdb code n = listWith code 0 (four 0 0 0 1) n
+
+-- a list of n sources with an own block, or own block 0, and a source at block 0
+abbrev pub headAt : ℕ → ℕ → List ℕ
+headAt n block = n ∷ 1 ∷ 0 ∷ 0 ∷ 0 ∷ 0 ∷ 0 ∷ block ∷ []
+
 abbrev pub head : ℕ → List ℕ
-head n = n ∷ 1 ∷ replicate 6 0
+head n = headAt n 0
 
 abbrev pub sourceBytes : ℕ → List ℕ
 sourceBytes address = 0 ∷ 0 ∷ 0 ∷ address ∷ zeros
@@ -44,18 +53,6 @@ row start before target cdb sent want = record { start = start; before = before;
 -- "C2 Same, byte 1 06h"
 abbrev pub c2 : Call
 c2 = command 1 (xdwrite 0x06) fresh room
-
--- C9: "nothing written; sense 70 00 0B 00 00 00 00 1D 00 12 .. 04 00 00 00 00 00."
-abbrev pub failedSecond : List ℕ → Showed
-failedSecond image =
-    record {
-      number = 2;
-      count = 0;
-      sense = 0x70 ∷ 0 ∷ 0x0B ∷ 0 ∷ 0 ∷ 0 ∷ 0 ∷ 0x1D ∷ 0 ∷ 0x12 ∷ 0 ∷ 0 ∷ 0 ∷ 0 ∷ 0 ∷ 0 ∷ 0 ∷ 0 ∷ 0x02 ∷ 0x70 ∷ 0 ∷ 0x02 ∷ 0 ∷ 0 ∷ 0 ∷ 0 ∷ 0x0A ∷ 0 ∷ 0 ∷ 0 ∷ 0 ∷ 0x04 ∷ 0 ∷ 0 ∷ 0 ∷ 0 ∷ 0 ∷ [];
-      len = 37;
-      image = image;
-      room = room;
-    }
 
 abbrev pub table : List Row
 table =
@@ -76,8 +73,8 @@ table =
     ∷ row (shelfOf 0 vacant zeros two three) [] 1 (listCdb 0xC3 0x18) (head 2 ++ sourceBytes 2 ++ sourceBytes 3) (quiet 0 0 bench room)
     -- C8: "To 2: REGENERATE block 0, source 3: 0A0B0C0D retained."
     ∷ row bench [] 2 (listCdb 0xC4 0x10) (head 1 ++ sourceBytes 3) (quiet 0 0 (shelfOf 0 (holding 2 1 one) one two three) room)
-    -- C9: "C1 with drive 3 failed"
-    ∷ row (shelfOf 1 vacant one two three) [] 1 (xdwrite 0x00) fresh (failedSecond (shelfOf 1 vacant one two three))
+    -- C9: "C1 with drive 3 failed: nothing written; sense 70 00 0B 00 00 00 00 1D 00 12 .. 02 70 00 02 .. 0A .. 04 ..", in full as `nested` has it
+    ∷ row (shelfOf 1 vacant one two three) [] 1 (xdwrite 0x00) fresh (nested 0x02 0x04 (shelfOf 1 vacant one two three) room)
     -- C10: "READ block 1 length 1 GOOD; length 2: 05h/21h/00h."
     ∷ row bench [] 1 (ten 0x28 1 1) [] (quiet 0 4 bench (zeros ++ replicate 4 0xAA))
     ∷ row bench [] 1 (ten 0x28 1 2) [] (refused 0x05 0x21 bench room)

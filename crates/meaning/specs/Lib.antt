@@ -11,5 +11,6 @@ pub mod Calls
 pub mod Row
 pub mod Cases
 pub mod Several
+pub mod Further
 pub mod Published
 pub mod Tables

@@ -1,6 +1,6 @@
 -- A row of a table of examples: calls on an image, the last a command, and what it answers and leaves. Assumes nothing.
 use Prim.Native.Nat.{ℕ}
-use mathlib.Core.List.{List, _∷_}
+use mathlib.Core.List.{List, [], _∷_, _++_}
 use lib.ListN.{replicate}
 use Rattle.sense.specs.Answers.{numberOf}
 use Rattle.meaning.specs.Step.{stepImage, stepRoom, stepOutcome}
@@ -48,6 +48,30 @@ refused key code image room =
       count = 0;
       sense = 0x70 ∷ 0 ∷ key ∷ 0 ∷ 0 ∷ 0 ∷ 0 ∷ 0x0A ∷ 0 ∷ 0 ∷ 0 ∷ 0 ∷ code ∷ replicate 24 0;
       len = 18;
+      image = image;
+      room = room;
+    }
+
+-- nested: "Address not in the table: byte 7 1Ch, byte 8 12h, plain sense 0Bh/08h/00h at byte 18, length 36."
+abbrev pub absent : List ℕ → List ℕ → Showed
+absent image room =
+    record {
+      number = 2;
+      count = 0;
+      sense = 0x70 ∷ 0 ∷ 0x0B ∷ 0 ∷ 0 ∷ 0 ∷ 0 ∷ 0x1C ∷ 0x12 ∷ replicate 9 0 ++ 0x70 ∷ 0 ∷ 0x0B ∷ 0 ∷ 0 ∷ 0 ∷ 0 ∷ 0x0A ∷ 0 ∷ 0 ∷ 0 ∷ 0 ∷ 0x08 ∷ replicate 6 0;
+      len = 36;
+      image = image;
+      room = room;
+    }
+
+-- "byte 7 1Dh, byte 9 12h, status 02h at byte 18 and that plain sense from 19, length 37"
+abbrev pub nested : ℕ → ℕ → List ℕ → List ℕ → Showed
+nested key code image room =
+    record {
+      number = 2;
+      count = 0;
+      sense = 0x70 ∷ 0 ∷ 0x0B ∷ 0 ∷ 0 ∷ 0 ∷ 0 ∷ 0x1D ∷ 0 ∷ 0x12 ∷ 0 ∷ 0 ∷ 0 ∷ 0 ∷ 0 ∷ 0 ∷ 0 ∷ 0 ∷ 0x02 ∷ 0x70 ∷ 0 ∷ key ∷ 0 ∷ 0 ∷ 0 ∷ 0 ∷ 0x0A ∷ 0 ∷ 0 ∷ 0 ∷ 0 ∷ code ∷ 0 ∷ 0 ∷ 0 ∷ 0 ∷ 0 ∷ [];
+      len = 37;
       image = image;
       room = room;
     }

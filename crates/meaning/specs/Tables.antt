@@ -1,6 +1,6 @@
 -- The tables of examples hold, by computation. Assumes nothing.
 use mathlib.Core.Path.{_≡_, refl}
-use mathlib.Core.List.{_++_, map}
+use mathlib.Core.List.{List, _++_, map}
 use Rattle.octets.specs.Part.{part}
 use Rattle.octets.specs.Put.{put}
 use Rattle.octets.specs.Xor.{_⊻_}
@@ -26,19 +26,29 @@ use Rattle.meaning.specs.Step.{stepImage, stepRoom, stepOutcome, resetIm
 use Rattle.meaning.specs.Row.{Row, got}
 use Rattle.meaning.specs.Cases.{table}
 use Rattle.meaning.specs.Several.{several}
+use Rattle.meaning.specs.Further as further
 use Rattle.meaning.specs.Published.{works, refusals}
 
--- C1 to C11 of 01
-pub cases : map got table ≡ map (λ (w : Row). w .want) table
+-- every row shows what it should
+abbrev pub Hold : List Row → Type 0
+Hold rows = map got rows ≡ map (λ (w : Row). w .want) rows
+
+computed : Hold table × Hold several × Hold (further.works ++ further.refusals) × Hold (works ++ refusals)
 unfolding decideOf stepImage stepRoom stepOutcome resetImage resetAnswer markImage markAnswer validImage framedOk rangesOk offsetsOk tableOk statesOk newAddress addressesOk slotsOk eachOk ranksOk slotOk slotOf slotAt place every allBelow countBelow leastBelow driveOf emptySlot newestOf bestOf better released lowered lowerOne dropped droppedTo dropOne marked bytesOf part put num toBe _⊻_ xorAll sourcesFrom gathered opOf sixteenOf tenOf listedOf ownOf resolvedOf listBytes sourceOf ownEntry driveBad entryBad firstBad noSense plainSense absentSense nestedSense
-cases = refl
+computed = (refl, refl, refl, refl)
+
+-- C1 to C11 of 01
+pub cases : Hold table
+cases = computed .0
 
 -- several slots
-pub several-cases : map got several ≡ map (λ (w : Row). w .want) several
-unfolding decideOf stepImage stepRoom stepOutcome resetImage resetAnswer markImage markAnswer validImage framedOk rangesOk offsetsOk tableOk statesOk newAddress addressesOk slotsOk eachOk ranksOk slotOk slotOf slotAt place every allBelow countBelow leastBelow driveOf emptySlot newestOf bestOf better released lowered lowerOne dropped droppedTo dropOne marked bytesOf part put num toBe _⊻_ xorAll sourcesFrom gathered opOf sixteenOf tenOf listedOf ownOf resolvedOf listBytes sourceOf ownEntry driveBad entryBad firstBad noSense plainSense absentSense nestedSense
-several-cases = refl
+pub several-cases : Hold several
+several-cases = computed .1
+
+-- one command each
+pub further-cases : Hold (further.works ++ further.refusals)
+further-cases = computed .2
 
 -- the published codes
-pub published-cases : map got (works ++ refusals) ≡ map (λ (w : Row). w .want) (works ++ refusals)
-unfolding decideOf stepImage stepRoom stepOutcome resetImage resetAnswer markImage markAnswer validImage framedOk rangesOk offsetsOk tableOk statesOk newAddress addressesOk slotsOk eachOk ranksOk slotOk slotOf slotAt place every allBelow countBelow leastBelow driveOf emptySlot newestOf bestOf better released lowered lowerOne dropped droppedTo dropOne marked bytesOf part put num toBe _⊻_ xorAll sourcesFrom gathered opOf sixteenOf tenOf listedOf ownOf resolvedOf listBytes sourceOf ownEntry driveBad entryBad firstBad noSense plainSense absentSense nestedSense
-published-cases = refl
+pub published-cases : Hold (works ++ refusals)
+published-cases = computed .3

@@ -18,5 +18,4 @@ pub mod Shelf
 pub mod Shelf_c
 pub mod Text
 pub mod Words
-pub mod Calls
 pub mod Rowsum

@@ -7,4 +7,3 @@ pub mod Lines
 pub mod Shown
 pub mod Fits
 pub mod Bench
-pub mod ShutOut

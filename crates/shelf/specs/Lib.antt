@@ -1,3 +1,2 @@
 pub mod Licensed
 pub mod Opened
-pub mod ShutOut

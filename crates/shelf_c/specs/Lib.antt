@@ -1,2 +1,1 @@
 pub mod Interface
-pub mod ShutOut

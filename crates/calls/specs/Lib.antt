@@ -1,4 +1,0 @@
-pub mod Answer
-pub mod Wrote
-pub mod Lines
-pub mod Examples

@@ -1,0 +1,5 @@
+pub mod Valid
+pub mod Step
+pub mod Calls
+pub mod Interface
+pub mod Listing
