@@ -1,4 +1,5 @@
--- Resets and markings: every one keeps a valid image valid, and the drives where they are. Assumes nothing.
+-- Resets and markings: one that is refused moves nothing (demand 1); every one keeps a valid image valid, and the drives where they are.
+-- Assumes nothing.
 use mathlib.Core.Path.{_≡_, refl, sym, subst}
 use mathlib.Core.Logic.{inl}
 use mathlib.Core.Bool.{false}
@@ -6,7 +7,7 @@ use mathlib.Core.List.{List}
 use Prim.Native.Nat.{ℕ, _<_}
 use native.Mathlib.Omega.{arith}
 use borrow.Author.Tests.{ltb-false}
-use Rattle.rules.specs.Rule.{first-cases}
+use Rattle.rules.specs.Rule.{first-cases, first-both}
 use Rattle.geometry.specs.declared.Geometry.{Geometry}
 use Rattle.geometry.specs.Header.{geometryOf}
 use Rattle.geometry.specs.Outside.{outside-away}
@@ -18,9 +19,23 @@ use Rattle.slots.specs.Change.{dropped}
 use Rattle.results.specs.Drop.{drop-part}
 use Rattle.image.specs.Shelf.{Shelf, shelf-frame}
 use Rattle.image.specs.Keeps.{shelf-dropped, shelf-marked}
+use Rattle.sense.specs.declared.Answer.{Answer}
+use Rattle.sense.specs.declared.Answer.the-variants.{Good}
 use Rattle.meaning.specs.Checks.{isNothing, calls}
-use Rattle.meaning.specs.Step.{untouched, target, resetImage, markCalls, markImage}
+use Rattle.meaning.specs.Step.{answered, untouched, target, resetAnswer, resetImage, markCalls, markAnswer, markImage}
 use Rattle.licence.specs.Passed.{found}
+
+-- "not one byte of the image .. has moved": an answer that is not GOOD leaves the image as it was
+abbrev Keeps : List ℕ → Answer → List ℕ → Type 0
+Keeps m x t = (x ≡ Good → ⊥) → t ≡ m
+
+pub reset-keeps : (m : List ℕ) (a : ℕ) → Keeps m (resetAnswer m a) (resetImage m a)
+unfolding resetAnswer resetImage
+reset-keeps m a = first-both answered (untouched m) (Keeps m) (calls m a) Good _ (λ n w x k. refl) (λ p k. absurd (k refl))
+
+pub mark-keeps : (m : List ℕ) (a state : ℕ) → Keeps m (markAnswer m a state) (markImage m a state)
+unfolding markAnswer markImage
+mark-keeps m a state = first-both answered (untouched m) (Keeps m) (markCalls m a state) Good _ (λ n w x k. refl) (λ p k. absurd (k refl))
 
 -- the target that passed call 2 is a drive
 pub target-in : (m : List ℕ) (a : ℕ) → isNothing (driveOf m (geometryOf m) a) ≡ false → target m a < geometryOf m .d

@@ -3,11 +3,13 @@
 use mathlib.Core.Path.{_≡_, ap, _∙_}
 use mathlib.Core.Bool.{Bool, true, false, cond}
 use mathlib.Core.List.{List}
+use mathlib.Core.Logic.{_⊎_, inl, inr}
 use Prim.Native.Nat.{ℕ, _≤_, _<_}
 use native.Mathlib.Omega.{arith}
 use lib.Dec.{ltb}
 use lib.ListN.{length}
 use borrow.Author.Tests.{lt-ltb, le-ltb}
+use Rattle.rules.specs.Cases.{either}
 use Rattle.octets.specs.Put.{put}
 use Rattle.sense.specs.declared.Outcome.{Outcome}
 use Rattle.sense.specs.declared.Answer.the-variants.{ShortRoom}
@@ -15,8 +17,10 @@ use Rattle.sense.specs.Answers.{numberOf}
 use Rattle.sense.specs.SenseLaws.{sound}
 use Rattle.meaning.specs.declared.Decision.{Decision}
 use Rattle.meaning.specs.declared.Decision.the-variants.{Stop, Go}
-use Rattle.meaning.specs.Step.{decided, outcomeAfter, stepImage, stepRoom, stepOutcome}
+use Rattle.meaning.specs.Step.{decided, outcomeAfter, stepImage, stepRoom, stepOutcome, resetAnswer, resetImage, markAnswer, markImage}
 use Rattle.meaning.specs.Stepped.{Stepped}
+use Rattle.demands.specs.Step.{refused-keeps}
+use Rattle.demands.specs.Calls.{reset-keeps, mark-keeps}
 use Rattle.demands.specs.Count.{count-small}
 
 -- the sense room n is too short
@@ -74,3 +78,19 @@ told-long m a c s r o m′ r′ h = ap (λ (t : Outcome). length (t .sense .byte
 
 pub fits-count : (m : List ℕ) (a : ℕ) (c s r : List ℕ) (o : Outcome) (m′ r′ : List ℕ) → Stepped m a c s r o m′ r′ → o .count < 4294967296
 fits-count m a c s r o m′ r′ h = let e : o .count ≡ stepOutcome m a c s r .count = ap (λ (t : Outcome). t .count) (h .outcome) in omega (arith, count-small m a c s r)
+
+-- demand 1 over the C contracts: a number other than 0 leaves the image, and a step's receive room, as they were
+pub step-keeps : (m : List ℕ) (a : ℕ) (c s r n : List ℕ) (k x : ℕ) (m′ r′ n′ : List ℕ) (k′ : ℕ) → StepCall m a c s r n k x m′ r′ n′ k′ → (x ≡ 0 → ⊥) → (m′ ≡ m) × (r′ ≡ r)
+step-keeps m a c s r n k x m′ r′ n′ k′ h never = pick (either (short n))
+  where
+    pick : (short n ≡ true) ⊎ (short n ≡ false) → (m′ ≡ m) × (r′ ≡ r)
+    pick (inl e) = (rw e at (h .image), rw e at (h .room))
+    pick (inr e) =
+        let w = refused-keeps m a c s r (λ g. never (h .number ∙ rw (e, g))) in
+        ((rw e at (h .image)) ∙ w .0, (rw e at (h .room)) ∙ w .1)
+
+pub reset-call-keeps : (m : List ℕ) (a x : ℕ) (m′ : List ℕ) → (x ≡ numberOf (resetAnswer m a)) × (m′ ≡ resetImage m a) → (x ≡ 0 → ⊥) → m′ ≡ m
+reset-call-keeps m a x m′ h never = h .1 ∙ reset-keeps m a (λ g. never (h .0 ∙ ap numberOf g))
+
+pub mark-call-keeps : (m : List ℕ) (a state x : ℕ) (m′ : List ℕ) → (x ≡ numberOf (markAnswer m a state)) × (m′ ≡ markImage m a state) → (x ≡ 0 → ⊥) → m′ ≡ m
+mark-call-keeps m a state x m′ h never = h .1 ∙ mark-keeps m a state (λ g. never (h .0 ∙ ap numberOf g))

@@ -1,4 +1,4 @@
--- Reading and writing are exact: what was written is read, only what is written so is read, and `=` is "unchanged". Assumes nothing.
+-- Reading and writing are exact: what was written is read, and only what is written so is read. Assumes nothing.
 use Prim.Native.Nat.{ℕ, zero, suc, _+_, _-_, _*_, _/_, _%_, _<_}
 use native.Mathlib.Nat.{not-suc-le-zero, le-of-suc-le-suc}
 use native.Mathlib.Omega.{arith}
@@ -85,11 +85,3 @@ word-back w h = ⊎-elim (λ t. dash (same-list w (ascii "-") t)) (λ f. digits 
         let some : 0 < length w = ltb-true 0 (length w) (both .0) in
         rw (word-some (unhex w) (λ z. let n = length-unhex w in omega arith))
         (written-read w (λ j l. all-at (λ i. isHex (getD w i 0)) (length w) j (hex .1) l) even)
-
--- ---- `=` is "unchanged"
-
-pub unchanged : (w bs : List ℕ) → Octets bs → sameList w (wordOf bs) ≡ true → bs ≡ unhex w
-unchanged w bs o t = sym (read-written bs o .1) ∙ ap unhex (sym (same-list w (wordOf bs) t))
-
-pub kept : (w bs : List ℕ) → isBytes w ≡ true → bs ≡ unhex w → sameList w (wordOf bs) ≡ true
-kept w bs h e = rw (e, word-back w h) (same-self w)
