@@ -6,7 +6,7 @@ pub mod Sources
 pub mod Checks
 pub mod Step
 pub mod Stepped
-pub mod Step1994
+pub mod Codes
 pub mod Calls
 pub mod Row
 pub mod Cases

@@ -1,37 +1,15 @@
--- The step of 1994 under its own name: it knows 01's codes alone. "On any one image a 1994 code is proved to act as before." (02, A1).
--- Assumes nothing.
+-- The published codes beside those of 1994 (02, A1): every other code says the operation that it said in 1994. Assumes nothing.
 use Prim.Native.Nat.{ℕ}
 use mathlib.Core.Bool.{Bool, true, false, _&&_, cond, true≢false}
 use mathlib.Core.Path.{_≡_, refl, sym, ap, _∙_}
 use mathlib.Core.List.{List, _∷_}
 use lib.Dec.{leb, eqb}
-use lib.ListN.{length, getD}
 use borrow.Author.Tests.{ne-eqb}
 use Rattle.octets.specs.Part.{part}
-use Rattle.sense.specs.declared.Outcome.{Outcome}
 use Rattle.command.specs.declared.Op.{Op}
 use Rattle.command.specs.declared.Op.the-variants.{XdWrite, XpWrite, XdRead, Rebuild, Regenerate, Read, Write, XdWriteTen, XdWriteRead, Unknown}
 use Rattle.command.specs.Command.{opOf1994, opOf, tenOf}
-use Rattle.meaning.specs.declared.Decision.{Decision}
-use Rattle.meaning.specs.Checks.{decideFor, decideOf}
-use Rattle.meaning.specs.Step.{decided, imageAfter, roomAfter, outcomeAfter, stepImage, stepRoom, stepOutcome}
-use Rattle.meaning.specs.Stepped.{Stepped}
-
--- ---- the step of 1994: image m, target address a, CDB c, data-out bytes s, receive room r
-
-abbrev pub decided1994 : List ℕ → ℕ → List ℕ → List ℕ → List ℕ → Decision
-decided1994 m a c s r = decideFor (opOf1994 (getD c 0 0)) m a c s (length r)
-
-abbrev pub stepImage1994 : List ℕ → ℕ → List ℕ → List ℕ → List ℕ → List ℕ
-stepImage1994 m a c s r = imageAfter (decided1994 m a c s r) m s
-
-abbrev pub stepRoom1994 : List ℕ → ℕ → List ℕ → List ℕ → List ℕ → List ℕ
-stepRoom1994 m a c s r = roomAfter (decided1994 m a c s r) m s r
-
-abbrev pub stepOutcome1994 : List ℕ → ℕ → List ℕ → List ℕ → List ℕ → Outcome
-stepOutcome1994 m a c s r = outcomeAfter (decided1994 m a c s r) m s
-
--- ---- it does as the step does
+use Rattle.meaning.specs.Checks.{decideOf}
 
 -- "50h to 53h"
 abbrev pub isPublished : ℕ → Bool
@@ -40,24 +18,12 @@ isPublished code = leb 0x50 code && leb code 0x53
 apart : (x y : ℕ) → isPublished x ≡ true → isPublished y ≡ false → x ≡ y → ⊥
 apart x y p q e = true≢false (sym p ∙ ap isPublished e ∙ q)
 
-same-op : (code : ℕ) → isPublished code ≡ false → opOf code ≡ opOf1994 code
+pub same-op : (code : ℕ) → isPublished code ≡ false → opOf code ≡ opOf1994 code
 unfolding opOf
 same-op code q = rw (no 0x50 refl, no 0x51 refl, no 0x52 refl, no 0x53 refl)
   where
     no : (x : ℕ) → isPublished x ≡ true → eqb code x ≡ false
     no x p = ne-eqb code x (λ e. apart x code p q (sym e))
-
--- a CDB whose first byte is not 50h to 53h leaves the outcome, the image and the room that it left in 1994
-pub as-in-1994 : (m : List ℕ) (a : ℕ) (c s r : List ℕ) → isPublished (getD c 0 0) ≡ false
-    → Stepped m a c s r (stepOutcome1994 m a c s r) (stepImage1994 m a c s r) (stepRoom1994 m a c s r)
-unfolding decideOf stepOutcome stepImage stepRoom
-as-in-1994 m a c s r q =
-    let e : decided1994 m a c s r ≡ decided m a c s r = ap (λ (o : Op). decideFor o m a c s (length r)) (sym (same-op (getD c 0 0) q)) in
-    record {
-      outcome = ap (λ (d : Decision). outcomeAfter d m s) e;
-      image = ap (λ (d : Decision). imageAfter d m s) e;
-      room = ap (λ (d : Decision). roomAfter d m s r) e;
-    }
 
 -- and 50h to 53h were unknown: no code of 1994 says XDWRITE(10) or XDWRITEREAD(10), so that their checks and acts are none of its own
 pub unknown-then : (code : ℕ) → isPublished code ≡ true → opOf1994 code ≡ Unknown
