@@ -111,8 +111,16 @@ Restores after step =
     → Whole after m g xs b n → Overwriting g d b n ys es sec count
     → (room : List ℕ) → BringsBack (runTo after xs m) (rebuilt step (runTo after xs m) g d b ys es sec count room)
 
--- ---- both
+-- and so wherever the sums are zero, whatever is owed: owed results that cancel, or whose bytes are all zero, do not stand in the way
+abbrev pub RestoresZero : AnyStep → Type 0
+RestoresZero step =
+    (m : List ℕ) (g : Geometry) (d b n : ℕ) (ys es : List ℕ) (sec count : ℕ)
+    → Shelf m g → Octets m → AllPresent m g → ZeroSums m g b n → Overwriting g d b n ys es sec count
+    → (room : List ℕ) → BringsBack m (rebuilt step m g d b ys es sec count room)
+
+-- ---- all of it
 
 pub record Demand (step : AnyStep) : Type 0 where
   pub sums-differ : SumsDiffer (callBy step)
   pub restores : Restores (callBy step) step
+  pub restores-zero : RestoresZero step

@@ -6,6 +6,7 @@ use mathlib.Core.List.{List, [], _∷_, _++_}
 use mathlib.Core.Option.{some}
 use lib.Dec.{eqb}
 use lib.ListN.{length, replicate}
+use Rattle.octets.specs.Octets.{Octets}
 use Rattle.octets.specs.Xor.{_⊻_, xor-nil, xor-cancels}
 use Rattle.geometry.specs.declared.Geometry.{Geometry}
 use Rattle.drives.specs.Table.{addressOf}
@@ -35,7 +36,7 @@ use Rattle.callers.specs.Next.{step-front}
 use Rattle.parity.specs.Ledger.{Read, Line, line, noted, notedBy, notedCall, FairCall, ledgerTo, FairTo, ledger-after, fair-front, ledger, Fair}
 use Rattle.parity.specs.Owed.{owed, owed-none, owed-nothing, length-owed}
 use Rattle.parity.specs.Waiting.{waiting, waiting-none}
-use Rattle.parity.specs.AnyStep.{theStep, callBy, Start, SumsDiffer, Whole, Overwriting, rebuilt, BringsBack, Restores, Demand}
+use Rattle.parity.specs.AnyStep.{theStep, callBy, Start, SumsDiffer, Whole, AllPresent, Overwriting, rebuilt, BringsBack, Restores, Demand}
 use Rattle.parity.specs.Restores.{restored}
 use Rattle.parity.specs.OneCall.{Tallies, SumKept, decision-tallies, decision-sum, resets-tallies, resets-sum, marks-tallies, marks-sum}
 
@@ -146,11 +147,22 @@ rebuild-restores m g xs d b n ys es sec count h w room =
     (λ e l. let a = address-lt m g (shelf-frame m g v) (h .bytes) e l in omega (arith, run-address g xs m v e l))
     d b n ys es sec count w (zero-again m g xs b n h (w .rows-in)) room
 
+-- and from zero sums alone
+pub zero-restores : (m : List ℕ) (g : Geometry) (d b n : ℕ) (ys es : List ℕ) (sec count : ℕ)
+    → Shelf m g → Octets m → AllPresent m g → ZeroSums m g b n → Overwriting g d b n ys es sec count
+    → (room : List ℕ) → BringsBack m (rebuilt theStep m g d b ys es sec count room)
+zero-restores m g d b n ys es sec count h o up z w room =
+    restored m g h up (λ e l. let a = address-lt m g (shelf-frame m g h) o e l in omega arith) d b n ys es sec count w z room
+
 -- demand 3 of the step
 pub demand : Demand theStep
 demand =
     let same : afterCall ≡ callBy theStep = fun-ext (λ x. fun-ext (λ m. by x m)) in
-    record { sums-differ = subst SumsDiffer same sums-differ; restores = subst (λ (after : Call → List ℕ → List ℕ). Restores after theStep) same rebuild-restores }
+    record {
+      sums-differ = subst SumsDiffer same sums-differ;
+      restores = subst (λ (after : Call → List ℕ → List ℕ). Restores after theStep) same rebuild-restores;
+      restores-zero = zero-restores;
+    }
   where
     by : (x : Call) (m : List ℕ) → afterCall x m ≡ callBy theStep x m
     by (command a c s r) m = refl
