@@ -7,10 +7,10 @@ use mathlib.Core.Path.{_≡_, refl, sym, ap, ap₂, subst, _∙_}
 use mathlib.Core.Logic.{_⊎_}
 use mathlib.Core.List.{List, [], _∷_, _++_, map}
 use lib.Dec.{eqb}
-use lib.ListN.{length, getD}
+use lib.ListN.{length, getD, replicate}
 use Rattle.octets.specs.Part.{part}
 use Rattle.octets.specs.Put.{put}
-use Rattle.octets.specs.Xor.{_⊻_}
+use Rattle.octets.specs.Xor.{_⊻_, xor-regroups, xor-itself}
 use Rattle.octets.specs.Operands.{xorAll}
 use Rattle.rules.specs.Each.{EachIs}
 use Rattle.geometry.specs.declared.Geometry.{Geometry}
@@ -30,6 +30,16 @@ use Rattle.callers.specs.Rebuilds.{rebuild-does, regenerate-does}
 -- the operands: the sources' blocks, and with Int Data the data d
 abbrev pub operands : List ℕ → Geometry → ℕ → List Source → ℕ → List ℕ → List (List ℕ)
 operands m g n es int d = map (namedBlocks m g n) es ++ cond (eqb int 0) [] (d ∷ [])
+
+-- "A source listed twice at one block cancels.": zeros as long as its blocks are left of the two; in what order a list stands never matters
+-- (`xorAll-perm`)
+pub cancels : (m : List ℕ) (g : Geometry) (n : ℕ) (e : Source) (es : List Source) (int : ℕ) (d : List ℕ)
+    → xorAll (operands m g n (e ∷ e ∷ es) int d) ≡ replicate (length (namedBlocks m g n e)) 0 ⊻ xorAll (operands m g n es int d)
+unfolding xorAll
+cancels m g n e es int d =
+    let x = namedBlocks m g n e in
+    let rest = xorAll (operands m g n es int d) in
+    sym (xor-regroups x x rest) ∙ ap (λ (z : List ℕ). z ⊻ rest) (xor-itself x)
 
 from-sources : (m : List ℕ) (g : Geometry) (n : ℕ) (s : List ℕ) (es : List Source) (i : ℕ)
     → ((j : ℕ) → j < length es → sourceOf s (i + j) ≡ getD es j (source 0 0)) → sourcesFrom m g s n i (length es) ≡ map (namedBlocks m g n) es
