@@ -31,7 +31,7 @@ use Rattle.results.specs.Ages.{agesTo, slotRanked}
 use Rattle.image.specs.Valid.{validImage}
 use Rattle.image.specs.Bench.{four, zeros, shelfOf, bench, fresh, result, benchShape, bench-shelf}
 use Rattle.command.specs.Lossless.{cdbOf}
-use Rattle.sums.specs.Row.{summedTo, rowSum}
+use Rattle.sums.specs.Row.{counts, summedTo, rowSum}
 use Rattle.sums.specs.Share.{share}
 use Rattle.sums.specs.OldBytes.{ZeroSums}
 use Rattle.sense.specs.declared.Answer.the-variants.{Good}
@@ -95,7 +95,7 @@ pub run-computed :
     × (ledger losing bench ≡ lostLedger)
     × (rowSum lostImage benchShape 0 ≡ fresh)
     × (owed benchShape 0 lostLedger ≡ fresh)
-unfolding decideOf stepImage resetImage markImage validImage framedOk rangesOk offsetsOk tableOk statesOk newAddress addressesOk slotsOk eachOk ranksOk slotOk slotOf slotAt place every allBelow sameList countBelow leastBelow driveOf emptySlot newestOf bestOf better released lowered lowerOne dropped droppedTo dropOne marked bytesOf part put num toBe _⊻_ xorAll opOf sixteenOf tenOf rowSum summedTo owed keeping share
+unfolding decideOf stepImage resetImage markImage validImage framedOk rangesOk offsetsOk tableOk statesOk newAddress addressesOk slotsOk eachOk ranksOk slotOk slotOf slotAt place every allBelow sameList countBelow leastBelow driveOf emptySlot newestOf bestOf better released lowered lowerOne dropped droppedTo dropOne marked bytesOf part put num toBe _⊻_ xorAll opOf sixteenOf tenOf rowSum summedTo counts owed keeping share
 run-computed = (refl, refl, refl, refl, refl, refl)
 
 -- block 0 of drive 3, and bytes to it by XPWRITE, C1h or 51h
@@ -131,7 +131,7 @@ losing-fair =
 -- ---- nothing is owed, and both blocks of drive 2 come back
 
 pub bench-zero : ZeroSums bench benchShape 0 2
-unfolding rowSum summedTo place part _⊻_
+unfolding rowSum summedTo counts place part _⊻_
 bench-zero zero lo hi = refl
 bench-zero (suc zero) lo hi = refl
 bench-zero (suc (suc r)) lo hi = absurd (omega arith)

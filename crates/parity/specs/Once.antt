@@ -21,7 +21,7 @@ use Rattle.slots.specs.Change.{released, lowerOne, lowered}
 use Rattle.results.specs.Lists.{keeping}
 use Rattle.image.specs.Valid.{validImage}
 use Rattle.image.specs.Bench.{zeros, one, bench, fresh, result, benchShape}
-use Rattle.sums.specs.Row.{summedTo, rowSum}
+use Rattle.sums.specs.Row.{counts, summedTo, rowSum}
 use Rattle.sums.specs.Share.{share}
 use Rattle.command.specs.Command.{opOf, sixteenOf, tenOf}
 use Rattle.meaning.specs.Checks.{decideOf}
@@ -57,7 +57,7 @@ pub twice-computed :
     × (rowSum (afterCalls (twice ++ carry ∷ []) bench) benchShape 0 ≡ result)
     × (ledger (twice ++ carry ∷ carry ∷ []) bench ≡ pair Carried Carried)
     × (rowSum (afterCalls (twice ++ carry ∷ carry ∷ []) bench) benchShape 0 ≡ zeros)
-unfolding decideOf stepImage validImage framedOk rangesOk offsetsOk tableOk statesOk newAddress addressesOk slotsOk eachOk ranksOk slotOk slotOf slotAt place every allBelow sameList countBelow leastBelow driveOf emptySlot newestOf bestOf better released lowered lowerOne bytesOf part put num toBe _⊻_ xorAll opOf sixteenOf tenOf rowSum summedTo owed keeping share
+unfolding decideOf stepImage validImage framedOk rangesOk offsetsOk tableOk statesOk newAddress addressesOk slotsOk eachOk ranksOk slotOk slotOf slotAt place every allBelow sameList countBelow leastBelow driveOf emptySlot newestOf bestOf better released lowered lowerOne bytesOf part put num toBe _⊻_ xorAll opOf sixteenOf tenOf rowSum summedTo counts owed keeping share
 twice-computed = (refl, refl, refl, refl, refl, refl, refl)
 
 pub twice-fair : Fair (twice ++ carry ∷ carry ∷ []) bench

@@ -21,7 +21,9 @@ use Rattle.results.specs.Results.{Result, results}
 use Rattle.results.specs.Newest.{answers}
 use Rattle.image.specs.Shelf.{Shelf, shelf-frame}
 use Rattle.image.specs.Keeps.{shelf-written}
+use Rattle.drives.specs.Front.{SameFront, front-put}
 use Rattle.sums.specs.Row.{rowSum}
+use Rattle.sums.specs.Counts.{same-counts, counts-all}
 use Rattle.sums.specs.Length.{length-sum}
 use Rattle.sums.specs.Share.{share, length-share}
 use Rattle.sums.specs.Change.{sum-same, sum-put}
@@ -32,7 +34,7 @@ use Rattle.meaning.specs.Acts.{spanAt, blocksOf, leaves}
 use Rattle.meaning.specs.Stores.{stored-alone}
 use Rattle.meaning.specs.Allowed.{Blocks, Filled, Allowed}
 use Rattle.meaning.specs.Lengths.{span-after-media, length-blocks}
-use Rattle.demands.specs.Beside.{Beside, retain-beside, leaves-beside}
+use Rattle.demands.specs.Beside.{Beside, front-beside, retain-beside, leaves-beside}
 use Rattle.demands.specs.Retained.{afterwards, results-after}
 use Rattle.parity.specs.Ledger.{Unread, Line, line, noted, Carries, FairAct}
 use Rattle.parity.specs.Owed.{isOwed, inRow, owed, owed-hit, owed-miss, owed-read, owed-carried}
@@ -66,16 +68,20 @@ module _ (m : List ℕ) (g : Geometry) (h : Shelf m g) (sent : List ℕ) (es : L
     f : Framed m g
     f = shelf-frame m g h
 
+    -- an act leaves header and drive table
+    acted : (room : ℕ) (act : Act) → Allowed m g sent room act → SameFront (leaves m g sent act) m g
+    acted room act al = leaves-beside m g h sent 0 (g .slots) room act al (front-beside g (f .placed) act)
+
     -- an act that writes no block
     quiet : (room : ℕ) (act : Act) → Allowed m g sent room act → ((a n : ℕ) → g .media ≤ a → Beside g act a n) → rowSum (leaves m g sent act) g r ≡ sum
     quiet room act al w =
-        sum-same m (leaves m g sent act) g r
+        sum-same m (leaves m g sent act) g r (same-counts (leaves m g sent act) m g (acted room act al))
         (λ d l. leaves-beside m g h sent (place g d r) (g .l) room act al (w (place g d r) (g .l) (place-after-media g d r)))
 
     -- what is written over blocks of a drive
     written-sum : (x : Span) (ys : List ℕ) → Blocks m g x → length ys ≡ x .count * g .l
         → rowSum (put m (spanAt g x) ys) g r ≡ sum ⊻ share g (x .block .0) (blocksOf m g x ⊻ ys) r
-    written-sum x ys b e = sum-put m g f (x .drive) (x .block .0) (x .count) (b .range) ys e r lr
+    written-sum x ys b e = sum-put m g f (x .drive) (x .block .0) (x .count) (b .range) ys e (counts-all m g (x .drive)) r lr
 
     length-δ : (x : Span) (ys : List ℕ) → length (share g (x .block .0) ys r) ≤ length sum
     length-δ x ys = omega (arith, length-share g (x .block .0) ys r, length-sum m g r f lr)
@@ -106,7 +112,7 @@ module _ (m : List ℕ) (g : Geometry) (h : Shelf m g) (sent : List ℕ) (es : L
         let same : blocksOf w g y ≡ v =
         other-drive m g (x .drive) (y .drive) (x .block .0) (y .block .0) (x .count) (y .count) (y .count * g .l) sent (λ q. ne (sym q))
         (bx .range .range-in) (by .range .range-in) (omega (arith, e)) (omega arith) in
-        sum-put w g (shelf-frame w g hw) (y .drive) (y .block .0) (y .count) (by .range) (v ⊻ (sent ⊻ u)) (length-xor-le v (sent ⊻ u) (omega arith) ∙ lv) r lr
+        sum-put w g (shelf-frame w g hw) (y .drive) (y .block .0) (y .count) (by .range) (v ⊻ (sent ⊻ u)) (length-xor-le v (sent ⊻ u) (omega arith) ∙ lv) (counts-all w g (y .drive)) r lr
         ∙ ap₂ (λ (o ys : List ℕ). o ⊻ share g (y .block .0) ys r) (written-sum x sent bx e)
         (ap (λ (o : List ℕ). o ⊻ (v ⊻ (sent ⊻ u))) same ∙ xor-again v (sent ⊻ u) (omega arith) ∙ xor-commutes sent u)
         ∙ ap (λ (k : ℕ). (sum ⊻ share g (x .block .0) (u ⊻ sent) r) ⊻ share g k (u ⊻ sent) r) (sym eb)
@@ -126,7 +132,10 @@ module _ (m : List ℕ) (g : Geometry) (h : Shelf m g) (sent : List ℕ) (es : L
     retain-sum : (room : ℕ) (x : Span) (i mirror ndisc : ℕ) → Allowed m g sent room (Retain x i mirror ndisc)
         → rowSum (leaves m g sent (Retain x i mirror ndisc)) g r ≡ rowSum (put m (spanAt g x) (cond (eqb ndisc 0) sent [])) g r
     retain-sum room x i mirror ndisc al =
-        sum-same (put m (spanAt g x) (cond (eqb ndisc 0) sent [])) (leaves m g sent (Retain x i mirror ndisc)) g r
+        let w = put m (spanAt g x) (cond (eqb ndisc 0) sent []) in
+        sum-same w (leaves m g sent (Retain x i mirror ndisc)) g r
+        (same-counts (leaves m g sent (Retain x i mirror ndisc)) w g
+        (acted room (Retain x i mirror ndisc) al ∙ sym (front-put m g (spanAt g x) _ (omega (arith, span-after-media g x, f .placed .slots-is, f .placed .media-is)))))
         (λ d ld. retain-beside m g h sent (place g d r) (g .l) room x i mirror ndisc al (inr (place-after-media g d r)))
 
     xd-sum : (room : ℕ) (x : Span) (i mirror ndisc : ℕ) → Allowed m g sent room (Retain x i mirror ndisc) → (ndisc ≡ 0 → mirror ≡ 0)

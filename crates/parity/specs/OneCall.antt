@@ -3,7 +3,7 @@ use Prim.Native.Nat.{ℕ, _*_, _<_}
 use native.Mathlib.Nat.{le-refl}
 use native.Mathlib.Omega.{arith}
 use mathlib.Core.Path.{_≡_, refl, sym, ap, ap₂, subst, _∙_}
-use mathlib.Core.Logic.{inr}
+use mathlib.Core.Logic.{inl, inr}
 use mathlib.Core.List.{List}
 use Rattle.octets.specs.Xor.{_⊻_}
 use Rattle.rules.specs.Rule.{first-both, first-cases}
@@ -21,6 +21,7 @@ use Rattle.results.specs.Kept.{kept-results}
 use Rattle.results.specs.Drop.{ofOther, drop-part, drop-results}
 use Rattle.image.specs.Shelf.{Shelf, shelf-frame}
 use Rattle.sums.specs.Row.{rowSum}
+use Rattle.sums.specs.Counts.{same-counts, marked-counts}
 use Rattle.sums.specs.Change.{sum-same}
 use Rattle.sense.specs.declared.Answer.{Answer}
 use Rattle.meaning.specs.declared.Act.{Act}
@@ -76,7 +77,9 @@ module _ (m : List ℕ) (g : Geometry) (h : Shelf m g) (es : List Line) where
   reset-sum : (drive : ℕ) → SumKept g m es (dropped m g drive) (onEach (waitsOn drive) (become Dropped) es)
   reset-sum drive r l =
       ap₂ _⊻_
-      (sum-same m (dropped m g drive) g r (λ d ld. drop-part m g drive (place g d r) (g .l) (outside-away g (place g d r) (g .l) p (inr (place-after-media g d r)))))
+      (sum-same m (dropped m g drive) g r
+      (same-counts (dropped m g drive) m g (drop-part m g drive 0 (g .slots) (outside-away g 0 (g .slots) p (inl (omega arith)))))
+      (λ d ld. drop-part m g drive (place g d r) (g .l) (outside-away g (place g d r) (g .l) p (inr (place-after-media g d r)))))
       (owed-dropped g r drive es)
 
   pub resets-tallies : (a : ℕ) → Tallies g m es → Tallies g (resetImage m a) (notedCall (reset a) m es)
@@ -102,7 +105,7 @@ module _ (m : List ℕ) (g : Geometry) (h : Shelf m g) (es : List Line) where
   mark-sum : (i state : ℕ) → i < g .d → SumKept g m es (marked m g i state) es
   mark-sum i state l r lr =
       ap (λ (o : List ℕ). o ⊻ owed g r es)
-      (sum-same m (marked m g i state) g r
+      (sum-same m (marked m g i state) g r (marked-counts m g i state)
       (λ d ld. part-marked m g i state p l (place g d r) (g .l) (omega (arith, place-after-media g d r, p .slots-is, p .media-is))))
 
   pub marks-tallies : (a state : ℕ) → Tallies g m es → Tallies g (markImage m a state) es

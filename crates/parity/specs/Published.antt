@@ -24,7 +24,7 @@ use Rattle.slots.specs.Change.{released, lowerOne, lowered}
 use Rattle.results.specs.Lists.{keeping}
 use Rattle.image.specs.Valid.{validImage}
 use Rattle.image.specs.Bench.{four, zeros, shelfOf, bench, fresh, result, benchShape}
-use Rattle.sums.specs.Row.{summedTo, rowSum}
+use Rattle.sums.specs.Row.{counts, summedTo, rowSum}
 use Rattle.sums.specs.Share.{share}
 use Rattle.command.specs.Command.{opOf, tenOf}
 use Rattle.meaning.specs.Checks.{decideOf}
@@ -85,7 +85,7 @@ pub published-computed :
     × (rowSum (afterCalls owing bench) benchShape 0 ≡ fresh)
     × (ledger (owing ++ carryBy 0xC1 fresh ∷ []) bench ≡ owingLedger Carried)
     × (rowSum (afterCalls (owing ++ carryBy 0xC1 fresh ∷ []) bench) benchShape 0 ≡ zeros)
-unfolding decideOf stepImage validImage framedOk rangesOk offsetsOk tableOk statesOk newAddress addressesOk slotsOk eachOk ranksOk slotOk slotOf slotAt place every allBelow sameList countBelow leastBelow driveOf emptySlot newestOf bestOf better released lowered lowerOne bytesOf part put num toBe _⊻_ xorAll opOf tenOf rowSum summedTo owed keeping share
+unfolding decideOf stepImage validImage framedOk rangesOk offsetsOk tableOk statesOk newAddress addressesOk slotsOk eachOk ranksOk slotOk slotOf slotAt place every allBelow sameList countBelow leastBelow driveOf emptySlot newestOf bestOf better released lowered lowerOne bytesOf part put num toBe _⊻_ xorAll opOf tenOf rowSum summedTo counts owed keeping share
 published-computed = (refl, refl, refl, refl, refl, refl, refl, refl, refl, refl, refl, refl)
 
 -- it is a run of the demand

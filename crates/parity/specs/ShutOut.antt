@@ -28,7 +28,7 @@ use Rattle.results.specs.Results.{results}
 use Rattle.results.specs.Ages.{agesTo, slotRanked}
 use Rattle.image.specs.Valid.{validImage}
 use Rattle.image.specs.Bench.{zeros, shelfOf, vacant, two, bench, fresh, result, benchShape}
-use Rattle.sums.specs.Row.{summedTo, rowSum}
+use Rattle.sums.specs.Row.{counts, summedTo, rowSum}
 use Rattle.sums.specs.Share.{share}
 use Rattle.sums.specs.OldBytes.{ZeroSums}
 use Rattle.sense.specs.declared.Answer.{Answer}
@@ -77,7 +77,7 @@ unfolding validImage framedOk rangesOk offsetsOk tableOk statesOk newAddress add
 spare-start = record { valid = record { header = refl; framed-ok = refl; table-ok = refl; slots-ok = refl }; nothing-retained = refl }
 
 spare-zero : ZeroSums spare benchShape 0 2
-unfolding rowSum summedTo place part _⊻_
+unfolding rowSum summedTo counts place part _⊻_
 spare-zero zero lo hi = refl
 spare-zero (suc zero) lo hi = refl
 spare-zero (suc (suc r)) lo hi = absurd (omega arith)
@@ -190,7 +190,7 @@ abbrev pub forgetting : Acting
 forgetting s g sent act = onCouple (λ x y mirror. put s (spanAt g y) (passedOn s g x y mirror sent)) (leaves s g sent act) act
 
 pub forgetting-not : SumsDiffer (callBy (actingBy forgetting)) → ⊥
-unfolding decideOf stepOutcome validImage framedOk rangesOk offsetsOk tableOk statesOk newAddress addressesOk slotsOk eachOk ranksOk slotOk slotOf slotAt place every allBelow countBelow leastBelow driveOf part put num toBe _⊻_ xorAll opOf sixteenOf tenOf rowSum summedTo owed keeping share
+unfolding decideOf stepOutcome validImage framedOk rangesOk offsetsOk tableOk statesOk newAddress addressesOk slotsOk eachOk ranksOk slotOk slotOf slotAt place every allBelow countBelow leastBelow driveOf part put num toBe _⊻_ xorAll opOf sixteenOf tenOf rowSum summedTo counts owed keeping share
 forgetting-not h =
     let x = h bench benchShape bench-start (command 1 (xdwrite 0x00) fresh room ∷ []) ((refl, refl), tt) 0 (lit≤ tt) in
     let z : _≡_ {A = ℕ} 0xF5 0 = ap (λ (l : List ℕ). getD l 0 0) x in
@@ -201,7 +201,7 @@ abbrev pub storing : Acting
 storing s g sent act = onXpWrite (λ x. put s (spanAt g x) sent) (leaves s g sent act) act
 
 pub storing-not : SumsDiffer (callBy (actingBy storing)) → ⊥
-unfolding decideOf stepOutcome validImage framedOk rangesOk offsetsOk tableOk statesOk newAddress addressesOk slotsOk eachOk ranksOk slotOk slotOf slotAt place every allBelow sameList countBelow leastBelow driveOf emptySlot newestOf bestOf better released lowered lowerOne bytesOf part put num toBe _⊻_ xorAll opOf sixteenOf tenOf rowSum summedTo owed keeping share
+unfolding decideOf stepOutcome validImage framedOk rangesOk offsetsOk tableOk statesOk newAddress addressesOk slotsOk eachOk ranksOk slotOk slotOf slotAt place every allBelow sameList countBelow leastBelow driveOf emptySlot newestOf bestOf better released lowered lowerOne bytesOf part put num toBe _⊻_ xorAll opOf sixteenOf tenOf rowSum summedTo counts owed keeping share
 storing-not h =
     let calls = command 1 (xdwrite 0x06) fresh room ∷ command 1 (ten 0xC2 0 1) [] room ∷ command 3 (ten 0xC1 0 1) result room ∷ [] in
     let x = h bench benchShape bench-start calls ((λ e. refl), (tt, (carried, tt))) 0 (lit≤ tt) in
@@ -214,7 +214,7 @@ heedless d s g sent act = onXdWriteRead (λ x disable. leaves s g sent (XdWriteR
 
 -- a sum that changes with nothing owed; one that stays with a result owed
 pub heedless-not : (d : ℕ) → d < 2 → SumsDiffer (callBy (actingBy (heedless d))) → ⊥
-unfolding decideOf stepOutcome validImage framedOk rangesOk offsetsOk tableOk statesOk newAddress addressesOk slotsOk eachOk ranksOk slotOk slotOf slotAt place every allBelow countBelow leastBelow driveOf part put num toBe _⊻_ xorAll opOf tenOf rowSum summedTo owed keeping share
+unfolding decideOf stepOutcome validImage framedOk rangesOk offsetsOk tableOk statesOk newAddress addressesOk slotsOk eachOk ranksOk slotOk slotOf slotAt place every allBelow countBelow leastBelow driveOf part put num toBe _⊻_ xorAll opOf tenOf rowSum summedTo counts owed keeping share
 heedless-not zero l h =
     let x = h bench benchShape bench-start (command 1 (tenWith 0x53 0x04 0 1) fresh room ∷ []) (tt, tt) 0 (lit≤ tt) in
     let z : _≡_ {A = ℕ} 0xF5 0 = ap (λ (l : List ℕ). getD l 0 0) x in

@@ -13,7 +13,7 @@ use Rattle.slots.specs.Record.{slotOf}
 use Rattle.slots.specs.Slots.{slotOk, eachOk, ranksOk, slotsOk}
 use Rattle.image.specs.Valid.{validImage}
 use Rattle.image.specs.Bench.{bench, afterC2}
-use Rattle.sums.specs.Row.{summedTo, rowSum, isOpen}
+use Rattle.sums.specs.Row.{counts, summedTo, rowSum, isOpen}
 use Rattle.text.specs.Ascii.{ascii}
 use Rattle.text.specs.Decimal.{decimal, decimalIn}
 use Rattle.text.specs.Hexadecimal.{hexadecimal, hexDigit}
@@ -27,5 +27,5 @@ pub bench-listings :
     × (textOf (set afterC2 40 1) ≡ ascii "drives 3 blocks 2 length 4 open 1\nrow 0 sum f50bf30d\n")
     × (textOf (set afterC2 40 2) ≡ ascii "not a shelf\n")
     × (textOf (set bench 88 1) ≡ ascii "drives 3 blocks 2 length 4 open 1\nrow 1 sum 01000000\n")
-unfolding textOf shelfLines rowLines lineOf rowLine headLine written decimal decimalIn hexadecimal hexDigit rowSum summedTo isOpen _⊻_ validImage framedOk rangesOk offsetsOk tableOk statesOk newAddress addressesOk slotsOk eachOk ranksOk slotOk slotOf slotAt place every allBelow countBelow part num
+unfolding textOf shelfLines rowLines lineOf rowLine headLine written decimal decimalIn hexadecimal hexDigit rowSum summedTo counts isOpen _⊻_ validImage framedOk rangesOk offsetsOk tableOk statesOk newAddress addressesOk slotsOk eachOk ranksOk slotOk slotOf slotAt place every allBelow countBelow part num
 bench-listings = (refl, refl, refl, refl, refl)

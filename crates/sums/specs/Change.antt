@@ -1,11 +1,12 @@
 -- What a write does to each row's sum. Assumes nothing.
+use mathlib.Core.Bool.{Bool, true, cond}
 use mathlib.Core.Path.{_≡_, refl, sym, ap, ap₂, _∙_}
 use mathlib.Core.Logic.{⊎-elim}
 use mathlib.Core.List.{List, []}
 use Prim.Native.Nat.{ℕ, zero, suc, _+_, _-_, _*_, _≤_, _<_}
 use native.Mathlib.Nat.{not-suc-le-zero}
 use native.Mathlib.Omega.{arith}
-use lib.ListN.{length}
+use lib.ListN.{length, replicate}
 use Rattle.octets.specs.Part.{part, length-part, part-part}
 use Rattle.octets.specs.Put.{put}
 use Rattle.octets.specs.PutPut.{part-put-below, part-put-above, part-put-of}
@@ -15,42 +16,48 @@ use Rattle.rules.specs.Cases.{order, last-or-below}
 use Rattle.geometry.specs.declared.Geometry.{Geometry}
 use Rattle.geometry.specs.Header.{place, blocksAt}
 use Rattle.geometry.specs.Frame.{Framed}
-use Rattle.geometry.specs.Places.{Range, place-on, block-before, block-upto, range-room, range-long}
+use Rattle.geometry.specs.Places.{Range, place-after-media, place-on, block-before, block-upto, range-room, range-long}
 use Rattle.geometry.specs.Written.{other-drive}
-use Rattle.sums.specs.Row.{blockIn, summedTo, rowSum}
+use Rattle.drives.specs.Front.{front-put}
+use Rattle.sums.specs.Counts.{SameCounts, same-counts}
+use Rattle.sums.specs.Row.{counts, added, blockIn, summedTo, rowSum}
 use Rattle.sums.specs.Share.{share, share-in, share-below, share-past}
 
 -- ---- from blocks to sums
 
 module _ (s t : List ℕ) (g : Geometry) (r : ℕ) where
-  same-to : (n : ℕ) → ((e : ℕ) → e < n → blockIn t g r e ≡ blockIn s g r e) → summedTo t g r n ≡ summedTo s g r n
+  same-to : (n : ℕ) → ((e : ℕ) → e < n → added t g r e ≡ added s g r e) → summedTo t g r n ≡ summedTo s g r n
   unfolding summedTo
   same-to zero h = refl
   same-to (suc n) h = ap₂ _⊻_ (same-to n (λ e l. h e (omega arith))) (h n (omega arith))
 
-  -- the same blocks, the same sum
-  pub sum-same : ((e : ℕ) → e < g .d → blockIn t g r e ≡ blockIn s g r e) → rowSum t g r ≡ rowSum s g r
-  unfolding rowSum
-  sum-same h = same-to (g .d) h
+  -- the same block of the same counted drive adds the same
+  same-added : (e : ℕ) → counts t g e ≡ counts s g e → blockIn t g r e ≡ blockIn s g r e → added t g r e ≡ added s g r e
+  same-added e c b = ap₂ (λ (x : Bool) (y : List ℕ). cond x y []) c b
 
-  -- one drive's block changes by δ
-  module _ (d : ℕ) (δ : List ℕ) (own : blockIn t g r d ≡ blockIn s g r d ⊻ δ) where
-    one-to : (n : ℕ) → d < n → ((e : ℕ) → e < n → (e ≡ d → ⊥) → blockIn t g r e ≡ blockIn s g r e) → summedTo t g r n ≡ summedTo s g r n ⊻ δ
+  -- the same drives and the same blocks, the same sum
+  pub sum-same : SameCounts t s g → ((e : ℕ) → e < g .d → blockIn t g r e ≡ blockIn s g r e) → rowSum t g r ≡ rowSum s g r
+  unfolding rowSum
+  sum-same c h = ap (_⊻_ (replicate (g .l) 0)) (same-to (g .d) (λ e l. same-added e (c e l) (h e l)))
+
+  -- what one drive adds changes by δ
+  module _ (d : ℕ) (δ : List ℕ) (own : added t g r d ≡ added s g r d ⊻ δ) where
+    one-to : (n : ℕ) → d < n → ((e : ℕ) → e < n → (e ≡ d → ⊥) → added t g r e ≡ added s g r e) → summedTo t g r n ≡ summedTo s g r n ⊻ δ
     unfolding summedTo
     one-to zero l h = absurd (not-suc-le-zero l)
     one-to (suc n) l h =
         ⊎-elim
         (λ (q : d ≡ n).
         ap₂ _⊻_ (same-to n (λ e le. h e (omega arith) (λ k. omega arith))) (rw q at own)
-        ∙ sym (xor-regroups (summedTo s g r n) (blockIn s g r n) δ))
+        ∙ sym (xor-regroups (summedTo s g r n) (added s g r n) δ))
         (λ lt.
         ap₂ _⊻_ (one-to n lt (λ e le. h e (omega arith))) (h n (omega arith) (λ k. omega arith))
-        ∙ xor-swaps (summedTo s g r n) δ (blockIn s g r n))
+        ∙ xor-swaps (summedTo s g r n) δ (added s g r n))
         (last-or-below l)
 
-    pub sum-one : d < g .d → ((e : ℕ) → e < g .d → (e ≡ d → ⊥) → blockIn t g r e ≡ blockIn s g r e) → rowSum t g r ≡ rowSum s g r ⊻ δ
+    sum-one : d < g .d → ((e : ℕ) → e < g .d → (e ≡ d → ⊥) → added t g r e ≡ added s g r e) → rowSum t g r ≡ rowSum s g r ⊻ δ
     unfolding rowSum
-    sum-one l h = one-to (g .d) l h
+    sum-one l h = ap (_⊻_ (replicate (g .l) 0)) (one-to (g .d) l h) ∙ sym (xor-regroups (replicate (g .l) 0) (summedTo s g r (g .d)) δ)
 
 -- ---- a write over n blocks of drive d from block b on
 
@@ -117,6 +124,15 @@ module _ (s : List ℕ) (g : Geometry) (f : Framed s g) (d b n : ℕ) (w : Range
       (order r (b + n)))
       (order r b)
 
-  -- each row's sum changes by the old bytes and the new ones there
-  pub sum-put : (r : ℕ) → r < g .b → rowSum (put s at ys) g r ≡ rowSum s g r ⊻ share g b (old ⊻ ys) r
-  sum-put r l = sum-one s (put s at ys) g r d (share g b (old ⊻ ys) r) (own-block r) (w .drive-in) (λ e le ne. other-block r e l ne)
+  kept : SameCounts (put s at ys) s g
+  kept = same-counts (put s at ys) s g (front-put s g at ys (omega (arith, place-after-media g d b, f .placed .slots-is, f .placed .media-is)))
+
+  -- each row's sum changes by the old bytes and the new ones there, where the drive counts
+  pub sum-put : counts s g d ≡ true → (r : ℕ) → r < g .b → rowSum (put s at ys) g r ≡ rowSum s g r ⊻ share g b (old ⊻ ys) r
+  sum-put c r l =
+      let δ = share g b (old ⊻ ys) r in
+      let own : added (put s at ys) g r d ≡ added s g r d ⊻ δ =
+      ap (λ (x : Bool). cond x (blockIn (put s at ys) g r d) []) (kept d (w .drive-in) ∙ c)
+      ∙ own-block r
+      ∙ sym (ap (λ (x : Bool). cond x (blockIn s g r d) [] ⊻ δ) c) in
+      sum-one s (put s at ys) g r d δ own (w .drive-in) (λ e le ne. same-added s (put s at ys) g r e (kept e le) (other-block r e l ne))

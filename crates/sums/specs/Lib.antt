@@ -1,4 +1,5 @@
 pub mod Row
+pub mod Counts
 pub mod Length
 pub mod Share
 pub mod Change

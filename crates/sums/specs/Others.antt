@@ -9,11 +9,12 @@ use mathlib.Core.List.{List, [], _∷_, map, List·Permᴰ, Permᴰ·map}
 use lib.Dec.{eqb}
 use lib.ListN.{length, replicate}
 use borrow.Author.Tests.{eq-eqb, ne-eqb, eqb-false}
-use Rattle.octets.specs.Xor.{_⊻_, xor-commutes, xor-swaps, xor-cancels, zeros-xor}
+use Rattle.octets.specs.Xor.{_⊻_, length-xor, xor-commutes, xor-swaps, xor-cancels, zeros-xor}
 use Rattle.octets.specs.Operands.{xorAll, xorAll-perm}
 use Rattle.rules.specs.Cases.{either, last-or-below}
 use Rattle.rules.specs.Each.{EachIs, each-implies}
 use Rattle.geometry.specs.declared.Geometry.{Geometry}
+use Rattle.sums.specs.Counts.{added-block}
 use Rattle.sums.specs.Row.{blockIn, summedTo, rowSum}
 
 -- the drives below n but drive d
@@ -53,29 +54,35 @@ module _ (s : List ℕ) (g : Geometry) (r : ℕ) where
   below zero d l = refl
   below (suc n) d l =
       rw (ne-eqb n d (λ q. omega arith))
-      (ap (λ (o : List ℕ). o ⊻ blockIn s g r n) (below n d (omega arith)) ∙ xor-commutes (all (others n d)) (blockIn s g r n))
+      (ap₂ _⊻_ (below n d (omega arith)) (added-block s g r n) ∙ xor-commutes (all (others n d)) (blockIn s g r n))
 
   above : (n d : ℕ) → d < n → summedTo s g r n ≡ all (others n d) ⊻ blockIn s g r d
   unfolding summedTo xorAll
   above zero d l = absurd (not-suc-le-zero l)
   above (suc n) d l =
       ⊎-elim
-      (λ (q : d ≡ n). rw (eq-eqb n d (sym q)) (ap₂ _⊻_ (below n d (omega arith)) (ap (blockIn s g r) (sym q))))
+      (λ (q : d ≡ n). rw (eq-eqb n d (sym q)) (ap₂ _⊻_ (below n d (omega arith)) (added-block s g r n ∙ ap (blockIn s g r) (sym q))))
       (λ (h : d < n). rw (ne-eqb n d (λ q. omega arith))
-      (ap (λ (o : List ℕ). o ⊻ blockIn s g r n) (above n d h)
+      (ap₂ _⊻_ (above n d h) (added-block s g r n)
       ∙ xor-swaps (all (others n d)) (blockIn s g r d) (blockIn s g r n)
       ∙ ap (λ (o : List ℕ). o ⊻ blockIn s g r d) (xor-commutes (all (others n d)) (blockIn s g r n))))
       (last-or-below l)
 
-  sum-split : (d : ℕ) → d < g .d → rowSum s g r ≡ all (others (g .d) d) ⊻ blockIn s g r d
+  sum-split : (d : ℕ) → d < g .d → rowSum s g r ≡ replicate (g .l) 0 ⊻ (all (others (g .d) d) ⊻ blockIn s g r d)
   unfolding rowSum
-  sum-split d l = above (g .d) d l
+  sum-split d l = ap (_⊻_ (replicate (g .l) 0)) (above (g .d) d l)
 
   -- a zero sum, every other drive once in any order
   pub left-out : (d : ℕ) (es : List ℕ) → d < g .d → List·Permᴰ es (others (g .d) d) → rowSum s g r ≡ replicate (g .l) 0
       → length (blockIn s g r d) ≡ g .l → length (all es) ≡ g .l → all es ≡ blockIn s g r d
   left-out d es l p z lb la =
       let e : all es ≡ all (others (g .d) d) = xorAll-perm (Permᴰ·map (blockIn s g r) p) in
+      let both = all es ⊻ blockIn s g r d in
+      let whole : both ≡ replicate (g .l) 0 =
+      sym (zeros-xor both (g .l) (omega (arith, length-xor (all es) (blockIn s g r d))))
+      ∙ ap (λ (o : List ℕ). replicate (g .l) 0 ⊻ (o ⊻ blockIn s g r d)) e
+      ∙ sym (sum-split d l)
+      ∙ z in
       sym (xor-cancels (all es) (blockIn s g r d) (omega arith))
-      ∙ ap (λ (o : List ℕ). o ⊻ blockIn s g r d) (ap (λ (o : List ℕ). o ⊻ blockIn s g r d) e ∙ sym (sum-split d l) ∙ z)
+      ∙ ap (λ (o : List ℕ). o ⊻ blockIn s g r d) whole
       ∙ zeros-xor (blockIn s g r d) (g .l) (omega arith)

@@ -3,30 +3,33 @@ use Prim.Native.Nat.{ℕ, zero, suc}
 use mathlib.Core.Bool.{Bool, true, not, cond}
 use mathlib.Core.List.{List, []}
 use lib.Dec.{eqb}
-use lib.ListN.{getD}
+use lib.ListN.{getD, replicate}
 use Rattle.octets.specs.Part.{part}
 use Rattle.octets.specs.Xor.{_⊻_}
 use Rattle.rules.specs.All.{allBelow}
 use Rattle.geometry.specs.declared.Geometry.{Geometry}
 use Rattle.geometry.specs.Header.{place}
 
--- which drives a row counts: all of them
-abbrev pub counts : List ℕ → Geometry → ℕ → Bool
-counts s g d = true
+-- which drives a row counts: all of them. Only the laws of `Counts` look inside.
+unfoldable pub counts : List ℕ → Geometry → ℕ → Bool
+counts m g d = true
 
--- drive d's block of row r
+-- drive d's block of row r, and what it adds to the sum
 abbrev pub blockIn : List ℕ → Geometry → ℕ → ℕ → List ℕ
-blockIn s g r d = part s (place g d r) (g .l)
+blockIn m g r d = part m (place g d r) (g .l)
 
--- the XOR of the blocks of the first n drives
+abbrev pub added : List ℕ → Geometry → ℕ → ℕ → List ℕ
+added m g r d = cond (counts m g d) (blockIn m g r d) []
+
+-- what the first n drives add
 unfoldable pub summedTo : List ℕ → Geometry → ℕ → ℕ → List ℕ
-summedTo s g r zero = []
-summedTo s g r (suc n) = summedTo s g r n ⊻ cond (counts s g n) (blockIn s g r n) []
+summedTo m g r zero = []
+summedTo m g r (suc n) = summedTo m g r n ⊻ added m g r n
 
--- "A row's sum is the XOR of that block on all drives."
+-- "A row's sum is the XOR of that block on all drives.": upon zeros, so that it is a block long whichever drives count
 unfoldable pub rowSum : List ℕ → Geometry → ℕ → List ℕ
-rowSum s g r = summedTo s g r (g .d)
+rowSum m g r = replicate (g .l) 0 ⊻ summedTo m g r (g .d)
 
 -- a row is open where its sum is not zero
 unfoldable pub isOpen : List ℕ → Geometry → ℕ → Bool
-isOpen s g r = not (allBelow (g .l) (λ j. eqb (getD (rowSum s g r) j 0) 0))
+isOpen m g r = not (allBelow (g .l) (λ j. eqb (getD (rowSum m g r) j 0) 0))

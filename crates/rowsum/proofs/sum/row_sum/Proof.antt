@@ -6,7 +6,7 @@ use lib.ListN.{length-replicate, length, replicate}
 use borrow.Author.Needs.{needs}
 use Rattle.octets.specs.Xor.{_⊻_}
 use Rattle.sums.specs.Row.{summedTo, rowSum}
-use Rattle.rowsum.specs.Sum.{sum-start, sum-more, sum-done}
+use Rattle.rowsum.specs.Sum.{sum-start, sum-more}
 use Rattle.rowsum.proofs.sum.row_sum.Statement.{statement}
 use Rattle.rowsum.proofs.sum.row_sum.Tie as tie
 
@@ -40,7 +40,7 @@ returns c =
     let g = start .args .g in
     let row = start .args .row in
     let e : the-loop .drive ≡ g .d = omega arith in
-    the-loop .inv .2 ∙ ap (λ (k : ℕ). replicate (g .l) 0 ⊻ summedTo s g row k) e ∙ sum-done s g row (start .pre .0) (start .pre .1)
+    the-loop .inv .2 ∙ ap (λ (k : ℕ). replicate (g .l) 0 ⊻ summedTo s g row k) e
 
 pub row-sum-spec : {M : Type 1} → statement M
 row-sum-spec =
