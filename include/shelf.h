@@ -15,6 +15,13 @@
  * - the bytes that a length tells of are there; a pointer may be NULL only where its length is 0, and `count` never is,
  * - no two buffers of a call overlap, `count` included; the data and the room of an XDWRITEREAD are two buffers. Calls that share no
  *   buffer may run at the same time.
+ *
+ * To link, where DIR is the folder of libshelf_c.a, with the archive's path or by its name:
+ *
+ *     cc driver.c DIR/libshelf_c.a
+ *     cc driver.c -LDIR -lshelf_c
+ *
+ * The library needs nothing but the C library's memory functions (memcpy, memmove, memset).
  */
 #ifndef SHELF_H
 #define SHELF_H
@@ -27,8 +34,41 @@ extern "C" {
 #endif
 
 /*
+ * The image. Numbers are big-endian, and offsets count from its first byte. The header is eight numbers of four bytes:
+ *
+ *   at  0   D    drives                  2 to 32
+ *   at  4   B    blocks of a drive       1 to 65,536
+ *   at  8   L    bytes of a block        4 to 4,096, a multiple of 4
+ *   at 12   S    slots                   0 to 16
+ *   at 16   M    blocks that a slot has  1 to 256, and may be above B
+ *   at 20        drive table at          32
+ *   at 24        slots at                32 + 4*D
+ *   at 28        media at                32 + 4*D + S*(16 + M*L)
+ *
+ * Drive table: 4 bytes for each drive, its state (0 present, 1 failed) and its address in three. Addresses are any, and differ.
+ *
+ * Slots: 16 + M*L bytes each, a record of 16 and M*L of data. An empty slot's record is all zero. A used one holds a result:
+ *
+ *   0-3     rank     the results are numbered by age, 1 the oldest, without a gap; slots hold them in any order
+ *   4       kind     1 left by XDWRITE (C0h, 50h), 2 by REGENERATE
+ *   5       drive    by its place in the drive table, the first being 0; present or failed
+ *   6-7     length   in blocks, 1 to M
+ *   8-11    block    the first; block + length is at most B
+ *   12-15   zero
+ *
+ * Its bytes, length*L, fill the front of the data. The rest of the data, and all data of an empty slot, may be anything. Any slots
+ * may be empty.
+ *
+ * Media: for each drive in the order of the table its B blocks of L bytes, which may be anything. Block b of the drive at place d
+ * stands at media + (d*B + b)*L. The image ends after the last block: it has 32 + 4*D + S*(16 + M*L) + D*B*L bytes, not one more
+ * or less. That may pass 32 bits, while the three offsets never do.
+ *
+ * So a new shelf is its header, its drive table, and zeros. Anything that is not as said here is SHELF_BAD_IMAGE.
+ */
+
+/*
  * What the three functions return: a SCSI status as itself, or 256 + n for a call that is wrong in itself, by its number n.
- * Anything but SHELF_GOOD leaves image and receive room as they were.
+ * Anything but SHELF_GOOD, from any of the three, leaves image and receive room as they were.
  */
 #define SHELF_GOOD 0            /* carried out */
 #define SHELF_CHECK_CONDITION 2 /* refused; the sense says why */
@@ -42,6 +82,19 @@ extern "C" {
 
 /* Bytes of the sense room that a step writes. */
 #define SHELF_SENSE_SIZE 37
+
+/* Byte 0 of a CDB: the codes of 1994, those that both sets have, and the published ones. */
+#define SHELF_XDWRITE 0xC0
+#define SHELF_XPWRITE 0xC1
+#define SHELF_XDREAD 0xC2
+#define SHELF_REBUILD 0xC3
+#define SHELF_REGENERATE 0xC4
+#define SHELF_READ_10 0x28
+#define SHELF_WRITE_10 0x2A
+#define SHELF_XDWRITE_10 0x50
+#define SHELF_XPWRITE_10 0x51
+#define SHELF_XDREAD_10 0x52
+#define SHELF_XDWRITEREAD_10 0x53
 
 /*
  * Carries out a command on the drive with the address `target`.
@@ -66,6 +119,26 @@ extern "C" {
  *                is a sense of 18 bytes, 0Bh/08h/00h.
  *     37 bytes   The secondary or a source refuses. The key is 0Bh, byte 9 is 12h, byte 18 that drive's status, and from byte 19 on
  *                there is its sense of 18 bytes.
+ *
+ * Every sense that there is, as key/code/qualifier:
+ *
+ *   the target       05h/20h/00h   unknown operation code
+ *   refuses          02h/04h/00h   it is marked failed
+ *                    05h/24h/00h   a field of the CDB: a bit that is to be zero is not; Sec Ctl is 01, or 11 in C3h or C4h; NDisc
+ *                                  without Sec Ctl 11; the secondary is the target, with Sec Ctl 00 or 10; the length is above the
+ *                                  blocks of a slot, where they limit it; C3h of length FFFFFFFFh with Int Data
+ *                    05h/24h/00h   XDREAD: the drive has no result at the block, or its newest there has another length
+ *                    05h/1Ah/00h   the list length is below 8, or not 8 + 8 for each source
+ *                    05h/26h/00h   in the list: no sources, byte 1 not 01h, bytes 2 and 3 not zero, or a source that is the target
+ *                    05h/21h/00h   the drive ends before the last of the blocks
+ *   nested           0Bh/08h/00h   no drive has the address (36 bytes)
+ *                    02h/04h/00h   the secondary or source is marked failed (37 bytes)
+ *                    05h/21h/00h   the secondary or source ends before the last of the blocks (37 bytes)
+ *
+ * The outer sense of a nested one is 0Bh/00h/00h. Of several reasons the first counts: SHELF_BAD_IMAGE, SHELF_BAD_TARGET,
+ * SHELF_BAD_CDB, 20h, 04h, 24h by a field, SHELF_BAD_DATA, 1Ah, 26h, 24h by XDREAD or 21h, SHELF_BUSY, nested, SHELF_SHORT_ROOM by
+ * the receive room. Where nothing is moved (see length, below), it is SHELF_GOOD in place of what would come after SHELF_BAD_DATA,
+ * or after 26h where a list came. Nested, the first source of the list that fails counts: by its address, its state, its blocks.
  *
  * The commands, those of 1994 and the published ones. Both sets share the slots: XDREAD of either hands out what either retained.
  *
@@ -92,7 +165,8 @@ extern "C" {
  *                     C3h, C4h        Int Data 04h, Sec Ctl in bits 1-0
  *                     DPO and FUA are ignored. With Mirror the data itself takes the place of data XOR old blocks. NDisc, which
  *                     wants Sec Ctl 11, and DISABLE WRITE leave the medium as it is.
- *   Sec Ctl           00 or 10; 11 retains the result of C0h for a later XDREAD. 50h has none and always retains.
+ *   Sec Ctl           00 or 10; 11 retains the result of C0h for a later XDREAD, and the secondary's fields are then ignored. 50h
+ *                     has none and always retains.
  *   list              number of sources, 01h, two zeros, own block (4 bytes); then for each source its address and block (4 each)
  *   length            at most the blocks of a slot in C0h, C1h, C4h, 50h, 51h and 53h. FFFFFFFFh in a REBUILD goes to the last
  *                     block. With a length of 0, but in an XDREAD of either set, and with a list length of 0 nothing is moved; the
@@ -103,7 +177,7 @@ extern "C" {
  *
  * READ of block 7 of the drive with address 1, on a shelf whose blocks have 512 bytes:
  *
- *     const uint8_t cdb[10] = {0x28, 0, 0, 0, 0, 7, 0, 0, 1, 0};
+ *     const uint8_t cdb[10] = {SHELF_READ_10, 0, 0, 0, 0, 7, 0, 0, 1, 0};
  *     uint8_t room[512], sense[SHELF_SENSE_SIZE];
  *     uint32_t count;
  *     uint32_t answer = shelf_step(image, image_len, 1, cdb, sizeof cdb, NULL, 0, room, sizeof room, sense, sizeof sense, &count);
