@@ -3,10 +3,13 @@
  * printed before it and after each of its calls. A row is a block on all drives; while its sum, the XOR of them all, is zero, each
  * of its blocks is the XOR of the others.
  *
- * Printing goes through write(2) alone, so that the program needs no headers but those of the compiler itself.
+ * Printing goes through write(2) alone, so that the program needs no headers but those of the compiler itself. It is C99, and C++ too.
  */
 #include "shelf.h"
 
+#ifdef __cplusplus
+extern "C"
+#endif
 long write(int file, const void *bytes, size_t count);
 
 enum { DRIVES = 3, BLOCKS = 2, LENGTH = 4, MEDIA = 68, IMAGE = 92 };
@@ -95,7 +98,7 @@ static uint32_t send(uint32_t target, const uint8_t *cdb, size_t cdb_len, const 
 
 /* New data to block 0 of drive 1. Sec Ctl 0 sends the result to block 0 of drive 3, and 3 retains it. */
 static void xdwrite(uint8_t sec_ctl) {
-    const uint8_t cdb[16] = {0xC0, (uint8_t)(sec_ctl << 1), 0, 0, 0, 0, 0, 1, 0, 0, 3, 0, 0, 0, 0, 0};
+    const uint8_t cdb[16] = {SHELF_XDWRITE, (uint8_t)(sec_ctl << 1), 0, 0, 0, 0, 0, 1, 0, 0, 3, 0, 0, 0, 0, 0};
     send(1, cdb, sizeof cdb, fresh, sizeof fresh, NULL, 0);
     say_rows("  after XDWRITE to drive 1\n");
 }
@@ -124,10 +127,10 @@ int main(void) {
     xdwrite(3);
     begin("C3: the result is fetched and carried to drive 3\n");
     xdwrite(3);
-    fetch("  XDREAD from drive 1 hands back ", 0xC2, NULL, 0);
-    xpwrite(0xC1);
+    fetch("  XDREAD from drive 1 hands back ", SHELF_XDREAD, NULL, 0);
+    xpwrite(SHELF_XPWRITE);
     begin("53h: drive 1 hands its result back in the same step, and 51h carries it to drive 3\n");
-    fetch("  XDWRITEREAD(10) to drive 1 hands back ", 0x53, fresh, sizeof fresh);
-    xpwrite(0x51);
+    fetch("  XDWRITEREAD(10) to drive 1 hands back ", SHELF_XDWRITEREAD_10, fresh, sizeof fresh);
+    xpwrite(SHELF_XPWRITE_10);
     return failed;
 }
