@@ -3,7 +3,7 @@
 PREFIX = /usr/local
 DESTDIR =
 into = $(DESTDIR)$(PREFIX)
-sources = crates.txt $(shell find crates -name '*.rt' -o -name '*.antt')
+sources := crates.txt $(shell find crates -name '*.rt' -o -name '*.antt')
 
 all:
 	tools/native-lib

@@ -130,7 +130,7 @@ extern "C" {
  *                    05h/24h/00h   XDREAD: the drive has no result at the block, or its newest there has another length
  *                    05h/1Ah/00h   the list length is below 8, or not 8 + 8 for each source
  *                    05h/26h/00h   in the list: no sources, byte 1 not 01h, bytes 2 and 3 not zero, or a source that is the target
- *                    05h/21h/00h   the drive ends before the last of the blocks
+ *                    05h/21h/00h   the drive ends before the last of the blocks; in C3h of length FFFFFFFFh, before the own block
  *   nested           0Bh/08h/00h   no drive has the address (36 bytes)
  *                    02h/04h/00h   the secondary or source is marked failed (37 bytes)
  *                    05h/21h/00h   the secondary or source ends before the last of the blocks (37 bytes)
