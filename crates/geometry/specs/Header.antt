@@ -11,16 +11,16 @@ use Rattle.geometry.specs.declared.Geometry.{Geometry}
 
 -- "The header is eight 4-byte fields": D, B, L, S, M, "then the offsets of the drive table, slots and media"
 abbrev pub geometryOf : List ℕ → Geometry
-geometryOf s =
+geometryOf m =
     record {
-      d = be 4 s 0;
-      b = be 4 s 4;
-      l = be 4 s 8;
-      s = be 4 s 12;
-      m = be 4 s 16;
-      table = be 4 s 20;
-      slots = be 4 s 24;
-      media = be 4 s 28;
+      d = be 4 m 0;
+      b = be 4 m 4;
+      l = be 4 m 8;
+      s = be 4 m 12;
+      m = be 4 m 16;
+      table = be 4 m 20;
+      slots = be 4 m 24;
+      media = be 4 m 28;
     }
 
 -- "drives D (2 to 32), blocks per drive B (1 to 65,536), block length L (4 to 4,096, a multiple of 4), slots S (0 to 16), slot size M
@@ -64,9 +64,9 @@ endOf g = g .media + g .d * g .b * g .l
 
 -- the header is right, and the image as long as it says
 unfoldable pub framedOk : List ℕ → Bool
-framedOk s =
+framedOk m =
     every
-    (leb 32 (length s) ∷ rangesOk (geometryOf s) ∷ offsetsOk (geometryOf s) ∷ eqb (length s) (endOf (geometryOf s)) ∷ [])
+    (leb 32 (length m) ∷ rangesOk (geometryOf m) ∷ offsetsOk (geometryOf m) ∷ eqb (length m) (endOf (geometryOf m)) ∷ [])
 
 -- ---- places
 
@@ -87,4 +87,4 @@ place g d b = g .media + (d * g .b + b) * g .l
 
 -- the bytes of drive d's n blocks from block b on
 abbrev pub blocksAt : List ℕ → Geometry → ℕ → ℕ → ℕ → List ℕ
-blocksAt s g d b n = part s (place g d b) (n * g .l)
+blocksAt m g d b n = part m (place g d b) (n * g .l)

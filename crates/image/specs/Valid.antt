@@ -9,4 +9,4 @@ use Rattle.slots.specs.Slots.{slotsOk}
 
 -- the header with offsets and length, the drive table, the slots; "its data may be anything", and the media too
 unfoldable pub validImage : List ℕ → Bool
-validImage s = every (framedOk s ∷ tableOk s (geometryOf s) ∷ slotsOk s (geometryOf s) ∷ [])
+validImage m = every (framedOk m ∷ tableOk m (geometryOf m) ∷ slotsOk m (geometryOf m) ∷ [])

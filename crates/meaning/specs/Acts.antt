@@ -33,8 +33,8 @@ store at bytes = record { at = at; bytes = bytes }
 
 -- one after the other
 abbrev pub stored : List ℕ → List Store → List ℕ
-stored s [] = s
-stored s (w ∷ ws) = stored (put s (w .at) (w .bytes)) ws
+stored m [] = m
+stored m (w ∷ ws) = stored (put m (w .at) (w .bytes)) ws
 
 -- ---- blocks
 
@@ -43,7 +43,7 @@ spanAt g x = place g (x .drive) (x .block .0)
 
 -- the bytes of a span
 abbrev pub blocksOf : List ℕ → Geometry → Span → List ℕ
-blocksOf s g x = blocksAt s g (x .drive) (x .block .0) (x .count)
+blocksOf m g x = blocksAt m g (x .drive) (x .block .0) (x .count)
 
 -- ---- XDWRITE
 
@@ -52,87 +52,87 @@ abbrev pub mixed : ℕ → List ℕ → List ℕ → List ℕ
 mixed mirror bytes old = cond (eqb mirror 0) (bytes ⊻ old) bytes
 
 abbrev pub resultOf : List ℕ → Geometry → Span → ℕ → List ℕ → List ℕ
-resultOf s g x mirror sent = mixed mirror sent (blocksOf s g x)
+resultOf m g x mirror s = mixed mirror s (blocksOf m g x)
 
 -- "Sec Ctl 00 or 10: the result goes to the secondary at its block, XORed into it, or written plainly with Mirror."
 abbrev pub laid : Bool → List ℕ → List ℕ → List ℕ
 laid adds there bytes = cond adds (there ⊻ bytes) bytes
 
 abbrev pub passedOn : List ℕ → Geometry → Span → Span → ℕ → List ℕ → List ℕ
-passedOn s g x y mirror sent = laid (eqb mirror 0) (blocksOf s g y) (resultOf s g x mirror sent)
+passedOn m g x y mirror s = laid (eqb mirror 0) (blocksOf m g y) (resultOf m g x mirror s)
 
 -- "NDisc 0 writes the data"; then the secondary
 abbrev pub coupled : List ℕ → Geometry → Span → Span → ℕ → List ℕ → List Store
-coupled s g x y mirror sent = store (spanAt g x) sent ∷ store (spanAt g y) (passedOn s g x y mirror sent) ∷ []
+coupled m g x y mirror s = store (spanAt g x) s ∷ store (spanAt g y) (passedOn m g x y mirror s) ∷ []
 
 -- a result in slot i: its bytes, then its record, as the newest
 abbrev pub slotStores : List ℕ → Geometry → ℕ → ℕ → Span → List ℕ → List Store
-slotStores s g i kind x bytes =
-    store (dataAt g i) bytes ∷ store (slotAt g i) (bytesOf (entry (usedCount s g + 1) kind (x .drive) (x .block .0) (x .count))) ∷ []
+slotStores m g i kind x bytes =
+    store (dataAt g i) bytes ∷ store (slotAt g i) (bytesOf (entry (usedCount m g + 1) kind (x .drive) (x .block .0) (x .count))) ∷ []
 
 -- with Sec Ctl 11 the data is written where NDisc is 0, and by 50h and 53h where DISABLE WRITE is 0
 abbrev pub dataStores : Geometry → Span → ℕ → List ℕ → List Store
-dataStores g x ndisc sent = cond (eqb ndisc 0) (store (spanAt g x) sent ∷ []) []
+dataStores g x ndisc s = cond (eqb ndisc 0) (store (spanAt g x) s ∷ []) []
 
 -- ---- REBUILD and REGENERATE
 
 -- the drive that a source names, where its blocks start, and so many of them
 abbrev pub homeOf : List ℕ → Geometry → Source → ℕ
-homeOf s g x = index (driveOf s g (x .address .0))
+homeOf m g x = index (driveOf m g (x .address .0))
 
 abbrev pub startOf : List ℕ → Geometry → Source → ℕ
-startOf s g x = place g (homeOf s g x) (x .block .0)
+startOf m g x = place g (homeOf m g x) (x .block .0)
 
 abbrev pub namedBlocks : List ℕ → Geometry → ℕ → Source → List ℕ
-namedBlocks s g count x = blocksAt s g (homeOf s g x) (x .block .0) count
+namedBlocks m g count x = blocksAt m g (homeOf m g x) (x .block .0) count
 
 -- the blocks that source entry i names
 abbrev pub sourceBlocks : List ℕ → Geometry → List ℕ → ℕ → ℕ → List ℕ
-sourceBlocks s g sent count i = namedBlocks s g count (sourceOf sent i)
+sourceBlocks m g s count i = namedBlocks m g count (sourceOf s i)
 
 -- "The list is read from its first entry on": the entries left, from entry i on
 unfoldable pub sourcesFrom : List ℕ → Geometry → List ℕ → ℕ → ℕ → ℕ → List (List ℕ)
-sourcesFrom s g sent count i zero = []
-sourcesFrom s g sent count i (suc left) = sourceBlocks s g sent count i ∷ sourcesFrom s g sent count (i + 1) left
+sourcesFrom m g s count i zero = []
+sourcesFrom m g s count i (suc left) = sourceBlocks m g s count i ∷ sourcesFrom m g s count (i + 1) left
 
 -- "the intermediate data is the part of the data-out bytes that starts right after the list; it is one more operand"
 abbrev pub intData : Geometry → List ℕ → ℕ → ℕ → ℕ → List (List ℕ)
-intData g sent count n int = cond (eqb int 0) [] (part sent (8 + 8 * n) (count * g .l) ∷ [])
+intData g s count n int = cond (eqb int 0) [] (part s (8 + 8 * n) (count * g .l) ∷ [])
 
 -- the XOR of the n sources and the intermediate data
 unfoldable pub gathered : List ℕ → Geometry → List ℕ → ℕ → ℕ → ℕ → List ℕ
-gathered s g sent count n int = xorAll (sourcesFrom s g sent count 0 n ++ intData g sent count n int)
+gathered m g s count n int = xorAll (sourcesFrom m g s count 0 n ++ intData g s count n int)
 
 -- ---- every command
 
 -- the stores of a command, in order; XDREAD's are those of a result that goes
 abbrev pub leaves : List ℕ → Geometry → List ℕ → Act → List ℕ
-leaves s g sent (Read x) = s
-leaves s g sent (Write x) = stored s (store (spanAt g x) sent ∷ [])
+leaves m g s (Read x) = m
+leaves m g s (Write x) = stored m (store (spanAt g x) s ∷ [])
 -- "XPWRITE: medium becomes old XOR data."
-leaves s g sent (XpWrite x) = stored s (store (spanAt g x) (blocksOf s g x ⊻ sent) ∷ [])
+leaves m g s (XpWrite x) = stored m (store (spanAt g x) (blocksOf m g x ⊻ s) ∷ [])
 -- "it is no longer retained"
-leaves s g sent (XdRead x i) = released s g i
-leaves s g sent (Couple x y mirror) = stored s (coupled s g x y mirror sent)
+leaves m g s (XdRead x i) = released m g i
+leaves m g s (Couple x y mirror) = stored m (coupled m g x y mirror s)
 -- "Sec Ctl 11: the result is retained", as kind 1
-leaves s g sent (Retain x i mirror ndisc) = stored s (dataStores g x ndisc sent ++ slotStores s g i 1 x (resultOf s g x mirror sent))
+leaves m g s (Retain x i mirror ndisc) = stored m (dataStores g x ndisc s ++ slotStores m g i 1 x (resultOf m g x mirror s))
 -- "REBUILD writes the XOR to the target"
-leaves s g sent (Rebuild x n int) = stored s (store (spanAt g x) (gathered s g sent (x .count) n int) ∷ [])
+leaves m g s (Rebuild x n int) = stored m (store (spanAt g x) (gathered m g s (x .count) n int) ∷ [])
 -- "REGENERATE adds the target's own blocks and retains the XOR."
-leaves s g sent (Regenerate x n int i) = stored s (slotStores s g i 2 x (blocksOf s g x ⊻ gathered s g sent (x .count) n int))
+leaves m g s (Regenerate x n int i) = stored m (slotStores m g i 2 x (blocksOf m g x ⊻ gathered m g s (x .count) n int))
 -- A1: 53h "takes no slot"
-leaves s g sent (XdWriteRead x disable) = stored s (dataStores g x disable sent)
+leaves m g s (XdWriteRead x disable) = stored m (dataStores g x disable s)
 
 -- what goes to the receive room's front
 abbrev pub hands : List ℕ → Geometry → List ℕ → Act → List ℕ
-hands s g sent (Read x) = blocksOf s g x
-hands s g sent (Write x) = []
-hands s g sent (XpWrite x) = []
+hands m g s (Read x) = blocksOf m g x
+hands m g s (Write x) = []
+hands m g s (XpWrite x) = []
 -- "Its bytes go to the receive room's front"
-hands s g sent (XdRead x i) = part s (dataAt g i) (x .count * g .l)
-hands s g sent (Couple x y mirror) = []
-hands s g sent (Retain x i mirror ndisc) = []
-hands s g sent (Rebuild x n int) = []
-hands s g sent (Regenerate x n int i) = []
+hands m g s (XdRead x i) = part m (dataAt g i) (x .count * g .l)
+hands m g s (Couple x y mirror) = []
+hands m g s (Retain x i mirror ndisc) = []
+hands m g s (Rebuild x n int) = []
+hands m g s (Regenerate x n int i) = []
 -- A1: 53h "puts the XOR in the receive room", of the data and the old blocks
-hands s g sent (XdWriteRead x disable) = sent ⊻ blocksOf s g x
+hands m g s (XdWriteRead x disable) = s ⊻ blocksOf m g x

@@ -1,7 +1,6 @@
 -- 01, "Answers and the order of checks": "The first that applies decides". Within one check the rules stand by the byte they look at.
 -- The published codes of 02, A1, have the same checks in the same order. Where a table goes by operation, those of 1994 stand first.
--- m is the image, g its geometry, a the target's address, t its index, o the operation, c the CDB, k the command, s the data-out
--- bytes, r the receive room's length. A rule is: 01's check, where it is seen, whether it applies, the answer. Assumes nothing.
+-- A rule is: 01's check, where it is seen, whether it applies, the answer. `room` is the receive room's length. Assumes nothing.
 use Prim.Native.Nat.{ℕ, _+_, _*_}
 use mathlib.Core.Bool.{Bool, true, false, not, _&&_, cond}
 use mathlib.Core.List.{List, [], _∷_, _++_}
@@ -209,19 +208,19 @@ busy Unknown m g k = []
 abbrev pub faultSeen : Fault → Seen
 faultSeen Clear = Dash
 faultSeen (Absent i) = Entry i 0
-faultSeen (Failed i k) = EntryDrive i k
+faultSeen (Failed i d) = EntryDrive i d
 faultSeen (Beyond i) = Entry i 4
 
 abbrev pub faultAnswer : Fault → Answer
 faultAnswer Clear = Good
 faultAnswer (Absent i) = NestedAddress
-faultAnswer (Failed i k) = NestedFailed
+faultAnswer (Failed i d) = NestedFailed
 faultAnswer (Beyond i) = NestedRange
 
 abbrev pub isFault : Fault → Bool
 isFault Clear = false
 isFault (Absent i) = true
-isFault (Failed i k) = true
+isFault (Failed i d) = true
 isFault (Beyond i) = true
 
 abbrev pub sourceRules : Fault → List Check
@@ -248,19 +247,19 @@ nested Unknown m g k s = []
 
 -- 11. "Call 5." A1: 53h "puts the XOR in the receive room".
 abbrev pub roomRule : Geometry → Command → ℕ → List Check
-roomRule g k r = rule 11 Dash (ltb r (k .count * g .l)) ShortRoom ∷ []
+roomRule g k room = rule 11 Dash (ltb room (k .count * g .l)) ShortRoom ∷ []
 
 abbrev pub rooms : Op → Geometry → Command → ℕ → List Check
-rooms XdWrite g k r = []
-rooms XpWrite g k r = []
-rooms XdRead g k r = roomRule g k r
-rooms Rebuild g k r = []
-rooms Regenerate g k r = []
-rooms Read g k r = roomRule g k r
-rooms Write g k r = []
-rooms XdWriteTen g k r = []
-rooms XdWriteRead g k r = roomRule g k r
-rooms Unknown g k r = []
+rooms XdWrite g k room = []
+rooms XpWrite g k room = []
+rooms XdRead g k room = roomRule g k room
+rooms Rebuild g k room = []
+rooms Regenerate g k room = []
+rooms Read g k room = roomRule g k room
+rooms Write g k room = []
+rooms XdWriteTen g k room = []
+rooms XdWriteRead g k room = roomRule g k room
+rooms Unknown g k room = []
 
 -- what is done where no check applies, and the answer to it
 abbrev pub spanOf : ℕ → Command → Span
@@ -287,7 +286,7 @@ acts Unknown m g t k s = Stop 2 (Cdb 0) UnknownCode
 
 -- checks 4 to 11
 abbrev pub commandChecks : Op → List ℕ → Geometry → ℕ → Command → List ℕ → ℕ → List Check
-commandChecks o m g t k s r =
+commandChecks o m g t k s room =
     fields o m g t k
     ++ rule 5 Dash (not (eqb (length s) (sends o g k))) WrongCount
     ∷ idle o k
@@ -295,23 +294,23 @@ commandChecks o m g t k s r =
     ++ ranges o m g t k s
     ++ busy o m g k
     ++ nested o m g k s
-    ++ rooms o g k r
+    ++ rooms o g k room
 
 -- all checks, in 01's order
 abbrev pub checksFor : Op → List ℕ → Geometry → ℕ → ℕ → List ℕ → List ℕ → ℕ → List Check
-checksFor o m g a t c s r = calls m a ++ cdbCalls o c ++ known m g t o ++ commandChecks o m g t (commandOf o c) s r
+checksFor o m g a t c s room = calls m a ++ cdbCalls o c ++ known m g t o ++ commandChecks o m g t (commandOf o c) s room
 
 -- of image m itself, and what is done where none applies
 abbrev pub checks : Op → List ℕ → ℕ → List ℕ → List ℕ → ℕ → List Check
-checks o m a c s r = checksFor o m (geometryOf m) a (index (driveOf m (geometryOf m) a)) c s r
+checks o m a c s room = checksFor o m (geometryOf m) a (index (driveOf m (geometryOf m) a)) c s room
 
 abbrev pub carriedOut : Op → List ℕ → ℕ → List ℕ → List ℕ → Decision
 carriedOut o m a c s = acts o m (geometryOf m) (index (driveOf m (geometryOf m) a)) (commandOf o c) s
 
 -- "The first that applies decides"
 abbrev pub decideFor : Op → List ℕ → ℕ → List ℕ → List ℕ → ℕ → Decision
-decideFor o m a c s r = first Stop (checks o m a c s r) (carriedOut o m a c s)
+decideFor o m a c s room = first Stop (checks o m a c s room) (carriedOut o m a c s)
 
 -- for the operation that the CDB's first byte says
 unfoldable pub decideOf : List ℕ → ℕ → List ℕ → List ℕ → ℕ → Decision
-decideOf m a c s r = decideFor (opOf (getD c 0 0)) m a c s r
+decideOf m a c s room = decideFor (opOf (getD c 0 0)) m a c s room

@@ -24,7 +24,7 @@ ownEntry m g s n t = leastBelow n (λ i. isAt t (driveOf m g (sourceOf s i .addr
 -- "for one entry, address, then failed drive, then range": of count blocks from block b on
 unfoldable pub driveBad : List ℕ → Geometry → ℕ → ℕ → ℕ → Found → Fault
 driveBad m g count i b Nothing = Absent i
-driveBad m g count i b (At k) = cond (failed m g k) (Failed i k) (cond (ltb (g .b) (b + count)) (Beyond i) Clear)
+driveBad m g count i b (At d) = cond (failed m g d) (Failed i d) (cond (ltb (g .b) (b + count)) (Beyond i) Clear)
 
 unfoldable pub entryBad : List ℕ → Geometry → List ℕ → ℕ → ℕ → Fault
 entryBad m g s count i = driveBad m g count i (sourceOf s i .block .0) (driveOf m g (sourceOf s i .address .0))
@@ -33,7 +33,7 @@ entryBad m g s count i = driveBad m g count i (sourceOf s i .block .0) (driveOf 
 abbrev pub orNext : Fault → Fault → Fault
 orNext Clear f = f
 orNext (Absent i) f = Absent i
-orNext (Failed i k) f = Failed i k
+orNext (Failed i d) f = Failed i d
 orNext (Beyond i) f = Beyond i
 
 -- "the first source entry in list order that fails decides", of the entries left from entry i on

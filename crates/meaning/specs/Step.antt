@@ -27,17 +27,17 @@ abbrev pub decided : List ℕ → ℕ → List ℕ → List ℕ → List ℕ →
 decided m a c s r = decideOf m a c s (length r)
 
 abbrev pub imageAfter : Decision → List ℕ → List ℕ → List ℕ
-imageAfter (Stop n w x) m s = m
-imageAfter (Go act x) m s = leaves m (geometryOf m) s act
+imageAfter (Stop n w z) m s = m
+imageAfter (Go act z) m s = leaves m (geometryOf m) s act
 
 -- "A GOOD read or XDREAD returns its byte count; bytes past it stay." A1: 53h "counts it" too
 abbrev pub roomAfter : Decision → List ℕ → List ℕ → List ℕ → List ℕ
-roomAfter (Stop n w x) m s r = r
-roomAfter (Go act x) m s r = put r 0 (hands m (geometryOf m) s act)
+roomAfter (Stop n w z) m s r = r
+roomAfter (Go act z) m s r = put r 0 (hands m (geometryOf m) s act)
 
 abbrev pub outcomeAfter : Decision → List ℕ → List ℕ → Outcome
-outcomeAfter (Stop n w x) m s = outcomeOf x 0
-outcomeAfter (Go act x) m s = outcomeOf x (length (hands m (geometryOf m) s act))
+outcomeAfter (Stop n w z) m s = outcomeOf z 0
+outcomeAfter (Go act z) m s = outcomeOf z (length (hands m (geometryOf m) s act))
 
 unfoldable pub stepImage : List ℕ → ℕ → List ℕ → List ℕ → List ℕ → List ℕ
 stepImage m a c s r = imageAfter (decided m a c s r) m s
@@ -52,10 +52,10 @@ stepOutcome m a c s r = outcomeAfter (decided m a c s r) m s
 
 -- the answer of the rule that decides, and what a refusal leaves of an image, or of anything else: that itself
 abbrev pub answered : ℕ → Seen → Answer → Answer
-answered n w x = x
+answered n w z = z
 
 abbrev pub untouched : {A : Type 0} → A → ℕ → Seen → Answer → A
-untouched m n w x = m
+untouched m n w z = m
 
 abbrev pub target : List ℕ → ℕ → ℕ
 target m a = index (driveOf m (geometryOf m) a)

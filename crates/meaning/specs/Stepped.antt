@@ -22,21 +22,21 @@ pub record Stepped (m : List ℕ) (a : ℕ) (c s r : List ℕ) (o : Outcome) (m�
   pub image : m′ ≡ stepImage m a c s r
   pub room : r′ ≡ stepRoom m a c s r
 
-pub record Reset (m : List ℕ) (a : ℕ) (x : Answer) (m′ : List ℕ) : Type 0 where
-  pub answer : x ≡ resetAnswer m a
+pub record Reset (m : List ℕ) (a : ℕ) (z : Answer) (m′ : List ℕ) : Type 0 where
+  pub answer : z ≡ resetAnswer m a
   pub image : m′ ≡ resetImage m a
 
-pub record Marked (m : List ℕ) (a state : ℕ) (x : Answer) (m′ : List ℕ) : Type 0 where
-  pub answer : x ≡ markAnswer m a state
+pub record Marked (m : List ℕ) (a state : ℕ) (z : Answer) (m′ : List ℕ) : Type 0 where
+  pub answer : z ≡ markAnswer m a state
   pub image : m′ ≡ markImage m a state
 
 -- ---- as the code goes
 
 module _ (m : List ℕ) (a : ℕ) (c s r : List ℕ) where
   -- a check decided
-  pub stopped : (n : ℕ) (w : Seen) (x : Answer) (o : Outcome) → decided m a c s r ≡ Stop n w x → o ≡ outcomeOf x 0 → Stepped m a c s r o m r
+  pub stopped : (n : ℕ) (w : Seen) (z : Answer) (o : Outcome) → decided m a c s r ≡ Stop n w z → o ≡ outcomeOf z 0 → Stepped m a c s r o m r
   unfolding stepOutcome stepImage stepRoom
-  stopped n w x o e q =
+  stopped n w z o e q =
       record {
         outcome = q ∙ sym (ap (λ (d : Decision). outcomeAfter d m s) e);
         image = sym (ap (λ (d : Decision). imageAfter d m s) e);
@@ -44,12 +44,12 @@ module _ (m : List ℕ) (a : ℕ) (c s r : List ℕ) where
       }
 
   -- none did
-  pub went : (act : Act) (x : Answer) (g : Geometry) (k : ℕ) (o : Outcome) (m′ r′ : List ℕ) → decided m a c s r ≡ Go act x → g ≡ geometryOf m
-      → m′ ≡ leaves m g s act → r′ ≡ put r 0 (hands m g s act) → k ≡ length (hands m g s act) → o ≡ outcomeOf x k → Stepped m a c s r o m′ r′
+  pub went : (act : Act) (z : Answer) (g : Geometry) (k : ℕ) (o : Outcome) (m′ r′ : List ℕ) → decided m a c s r ≡ Go act z → g ≡ geometryOf m
+      → m′ ≡ leaves m g s act → r′ ≡ put r 0 (hands m g s act) → k ≡ length (hands m g s act) → o ≡ outcomeOf z k → Stepped m a c s r o m′ r′
   unfolding stepOutcome stepImage stepRoom
-  went act x g k o m′ r′ e h p q l z =
+  went act z g k o m′ r′ e h p q l u =
       record {
-        outcome = z ∙ ap (outcomeOf x) (l ∙ ap (λ (j : Geometry). length (hands m j s act)) h) ∙ sym (ap (λ (d : Decision). outcomeAfter d m s) e);
+        outcome = u ∙ ap (outcomeOf z) (l ∙ ap (λ (j : Geometry). length (hands m j s act)) h) ∙ sym (ap (λ (d : Decision). outcomeAfter d m s) e);
         image = p ∙ ap (λ (j : Geometry). leaves m j s act) h ∙ sym (ap (λ (d : Decision). imageAfter d m s) e);
         room = q ∙ ap (λ (j : Geometry). put r 0 (hands m j s act)) h ∙ sym (ap (λ (d : Decision). roomAfter d m s r) e);
       }

@@ -1,5 +1,14 @@
 // What a step means: the types of a decision, and in `specs/` the definitions that every contract of the
 // step cites. There is no code here, so that theorems over the definitions never wait for code.
+//
+// The letters of the definitions, here and in the crates below, have one meaning each:
+//
+//     m  the image               g  its geometry, whose fields have 01's letters
+//     a  an address              t  the target's index in the table    d  another drive's
+//     c  the CDB                 o  its operation                      k  the command
+//     s  the data-out bytes      r  the receive room                   i  a slot's or a source entry's number
+//     b  a block number          n  how many                           x, y  blocks of a drive
+//     z  an answer               w  where a check saw it               e  a slot's record, or a source
 use geometry::Block;
 use sense::Answer;
 

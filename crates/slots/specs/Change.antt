@@ -22,35 +22,35 @@ entry rank kind drive block n = record { rank = rank; kind = kind; drive = drive
 
 -- "its bytes fill the front of the slot, the rest stays"; where no slot is empty nothing is retained
 abbrev pub entered : Found → List ℕ → Geometry → Slot → List ℕ → List ℕ
-entered (At i) s g r bytes = put s (slotAt g i) (bytesOf r ++ bytes)
-entered Nothing s g r bytes = s
+entered (At i) m g e bytes = put m (slotAt g i) (bytesOf e ++ bytes)
+entered Nothing m g e bytes = m
 
 -- "A new result takes the lowest-numbered empty slot and rank k+1"
 unfoldable pub retained : List ℕ → Geometry → ℕ → ℕ → ℕ → ℕ → List ℕ → List ℕ
-retained s g kind drive block n bytes = entered (emptySlot s g) s g (entry (usedCount s g + 1) kind drive block n) bytes
+retained m g kind drive block n bytes = entered (emptySlot m g) m g (entry (usedCount m g + 1) kind drive block n) bytes
 
 -- "higher ranks fall by one": in slot i, and in the first n slots
 unfoldable pub lowerOne : Geometry → ℕ → ℕ → List ℕ → List ℕ
-lowerOne g rank i s = cond (ltb rank (slotOf s g i .rank)) (put s (slotAt g i) (toBe 4 (slotOf s g i .rank - 1))) s
+lowerOne g rank i m = cond (ltb rank (slotOf m g i .rank)) (put m (slotAt g i) (toBe 4 (slotOf m g i .rank - 1))) m
 
 unfoldable pub lowered : Geometry → ℕ → ℕ → List ℕ → List ℕ
-lowered g rank zero s = s
-lowered g rank (suc n) s = lowerOne g rank n (lowered g rank n s)
+lowered g rank zero m = m
+lowered g rank (suc n) m = lowerOne g rank n (lowered g rank n m)
 
 -- "When a result goes, its record is zeroed, its data left, and higher ranks fall by one."
 unfoldable pub released : List ℕ → Geometry → ℕ → List ℕ
-released s g i = lowered g (slotOf s g i .rank) (g .s) (put s (slotAt g i) (replicate 16 0))
+released m g i = lowered g (slotOf m g i .rank) (g .s) (put m (slotAt g i) (replicate 16 0))
 
 -- "Hard reset drops all results of its drive": slot i's, and those of the first n slots
 abbrev pub ofDrive : ℕ → Slot → Bool
-ofDrive drive r = every (isUsed r ∷ eqb (r .drive) drive ∷ [])
+ofDrive drive e = every (isUsed e ∷ eqb (e .drive) drive ∷ [])
 
 unfoldable pub dropOne : Geometry → ℕ → ℕ → List ℕ → List ℕ
-dropOne g drive i s = cond (ofDrive drive (slotOf s g i)) (released s g i) s
+dropOne g drive i m = cond (ofDrive drive (slotOf m g i)) (released m g i) m
 
 unfoldable pub droppedTo : Geometry → ℕ → ℕ → List ℕ → List ℕ
-droppedTo g drive zero s = s
-droppedTo g drive (suc n) s = dropOne g drive n (droppedTo g drive n s)
+droppedTo g drive zero m = m
+droppedTo g drive (suc n) m = dropOne g drive n (droppedTo g drive n m)
 
 unfoldable pub dropped : List ℕ → Geometry → ℕ → List ℕ
-dropped s g drive = droppedTo g drive (g .s) s
+dropped m g drive = droppedTo g drive (g .s) m

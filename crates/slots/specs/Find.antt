@@ -14,21 +14,21 @@ use Rattle.slots.specs.Record.{slotOf, isUsed}
 
 -- "A new result takes the lowest-numbered empty slot"
 unfoldable pub emptySlot : List ℕ → Geometry → Found
-emptySlot s g = leastBelow (g .s) (λ i. not (isUsed (slotOf s g i)))
+emptySlot m g = leastBelow (g .s) (λ i. not (isUsed (slotOf m g i)))
 
 -- a result "retained on that drive with that block number"
 abbrev pub wanted : ℕ → ℕ → Slot → Bool
-wanted drive block r = every (isUsed r ∷ eqb (r .drive) drive ∷ eqb (r .block .0) block ∷ [])
+wanted drive block e = every (isUsed e ∷ eqb (e .drive) drive ∷ eqb (e .block .0) block ∷ [])
 
 -- the best so far, or slot i where it is wanted and of a higher rank
 unfoldable pub better : ℕ → ℕ → Best → ℕ → Slot → Best
-better drive block b i r = cond (every (wanted drive block r ∷ ltb (b .top) (r .rank) ∷ [])) (record { top = r .rank; found = At i }) b
+better drive block best i e = cond (every (wanted drive block e ∷ ltb (best .top) (e .rank) ∷ [])) (record { top = e .rank; found = At i }) best
 
 -- of the first n slots
 unfoldable pub bestOf : List ℕ → Geometry → ℕ → ℕ → ℕ → Best
-bestOf s g drive block zero = record { top = 0; found = Nothing }
-bestOf s g drive block (suc n) = better drive block (bestOf s g drive block n) n (slotOf s g n)
+bestOf m g drive block zero = record { top = 0; found = Nothing }
+bestOf m g drive block (suc n) = better drive block (bestOf m g drive block n) n (slotOf m g n)
 
 -- "the newest retained on that drive with that block number": of those wanted, the one of the highest rank
 unfoldable pub newestOf : List ℕ → Geometry → ℕ → ℕ → Found
-newestOf s g drive block = bestOf s g drive block (g .s) .found
+newestOf m g drive block = bestOf m g drive block (g .s) .found

@@ -11,20 +11,20 @@ use Rattle.slots.specs.declared.Slot.{Slot}
 
 -- "rank (4 bytes), kind (0 empty, 1 XDWRITE, 2 REGENERATE), drive index (1), length in blocks (2), block number (4), four zero bytes"
 abbrev pub recordOf : List ℕ → Slot
-recordOf r =
-    record { rank = be 4 r 0; kind = be 1 r 4; drive = be 1 r 5; len = be 2 r 6; block = record { 0 = be 4 r 8 }; last = be 4 r 12 }
+recordOf bytes =
+    record { rank = be 4 bytes 0; kind = be 1 bytes 4; drive = be 1 bytes 5; len = be 2 bytes 6; block = record { 0 = be 4 bytes 8 }; last = be 4 bytes 12 }
 
 -- the sixteen bytes that write it
 unfoldable pub bytesOf : Slot → List ℕ
-bytesOf r = toBe 4 (r .rank) ++ toBe 1 (r .kind) ++ toBe 1 (r .drive) ++ toBe 2 (r .len) ++ toBe 4 (r .block .0) ++ toBe 4 (r .last)
+bytesOf e = toBe 4 (e .rank) ++ toBe 1 (e .kind) ++ toBe 1 (e .drive) ++ toBe 2 (e .len) ++ toBe 4 (e .block .0) ++ toBe 4 (e .last)
 
 -- slot i of an image
 unfoldable pub slotOf : List ℕ → Geometry → ℕ → Slot
-slotOf s g i = recordOf (part s (slotAt g i) 16)
+slotOf m g i = recordOf (part m (slotAt g i) 16)
 
 -- an empty slot's record, all zero
 abbrev pub zeroSlot : Slot
 zeroSlot = record { rank = 0; kind = 0; drive = 0; len = 0; block = record { 0 = 0 }; last = 0 }
 
 abbrev pub isUsed : Slot → Bool
-isUsed r = not (eqb (r .kind) 0)
+isUsed e = not (eqb (e .kind) 0)

@@ -12,50 +12,50 @@ use Rattle.slots.specs.Record.{slotOf, isUsed}
 
 -- "An empty slot's record is all zero; its data may be anything." (That its kind is zero says that it is empty.)
 abbrev pub emptyOk : Slot → Bool
-emptyOk r = every (eqb (r .rank) 0 ∷ eqb (r .drive) 0 ∷ eqb (r .len) 0 ∷ eqb (r .block .0) 0 ∷ eqb (r .last) 0 ∷ [])
+emptyOk e = every (eqb (e .rank) 0 ∷ eqb (e .drive) 0 ∷ eqb (e .len) 0 ∷ eqb (e .block .0) 0 ∷ eqb (e .last) 0 ∷ [])
 
 -- "Used slots have kind 1 or 2, index below D, length 1 to M, block + length at most B, and their ranks are 1 to k": k of them are used
 abbrev pub usedOk : Geometry → ℕ → Slot → Bool
-usedOk g k r =
+usedOk g k e =
     every
-    (leb 1 (r .kind)
-    ∷ leb (r .kind) 2
-    ∷ ltb (r .drive) (g .d)
-    ∷ leb 1 (r .len)
-    ∷ leb (r .len) (g .m)
-    ∷ leb (r .block .0 + r .len) (g .b)
-    ∷ eqb (r .last) 0
-    ∷ leb 1 (r .rank)
-    ∷ leb (r .rank) k
+    (leb 1 (e .kind)
+    ∷ leb (e .kind) 2
+    ∷ ltb (e .drive) (g .d)
+    ∷ leb 1 (e .len)
+    ∷ leb (e .len) (g .m)
+    ∷ leb (e .block .0 + e .len) (g .b)
+    ∷ eqb (e .last) 0
+    ∷ leb 1 (e .rank)
+    ∷ leb (e .rank) k
     ∷ [])
 
 unfoldable pub slotOk : Geometry → ℕ → Slot → Bool
-slotOk g k r = cond (isUsed r) (usedOk g k r) (emptyOk r)
+slotOk g k e = cond (isUsed e) (usedOk g k e) (emptyOk e)
 
 -- how many of the slots f are used, and of an image's
 abbrev pub usedIn : Geometry → (ℕ → Slot) → ℕ
 usedIn g f = countBelow (g .s) (λ i. isUsed (f i))
 
 abbrev pub usedCount : List ℕ → Geometry → ℕ
-usedCount s g = usedIn g (slotOf s g)
+usedCount m g = usedIn g (slotOf m g)
 
 -- a used slot of rank n, and how many have it
 abbrev pub hasRank : ℕ → Slot → Bool
-hasRank n r = every (isUsed r ∷ eqb (r .rank) n ∷ [])
+hasRank n e = every (isUsed e ∷ eqb (e .rank) n ∷ [])
 
 abbrev pub rankedIn : Geometry → (ℕ → Slot) → ℕ → ℕ
 rankedIn g f n = countBelow (g .s) (λ i. hasRank n (f i))
 
 abbrev pub rankCount : List ℕ → Geometry → ℕ → ℕ
-rankCount s g n = rankedIn g (slotOf s g) n
+rankCount m g n = rankedIn g (slotOf m g) n
 
 -- each slot is right, where k are used
 unfoldable pub eachOk : List ℕ → Geometry → ℕ → Bool
-eachOk s g k = allBelow (g .s) (λ i. slotOk g k (slotOf s g i))
+eachOk m g k = allBelow (g .s) (λ i. slotOk g k (slotOf m g i))
 
 -- "their ranks are 1 to k, each once"
 unfoldable pub ranksOk : List ℕ → Geometry → ℕ → Bool
-ranksOk s g k = allBelow k (λ n. eqb (rankCount s g (n + 1)) 1)
+ranksOk m g k = allBelow k (λ n. eqb (rankCount m g (n + 1)) 1)
 
 unfoldable pub slotsOk : List ℕ → Geometry → Bool
-slotsOk s g = every (eachOk s g (usedCount s g) ∷ ranksOk s g (usedCount s g) ∷ [])
+slotsOk m g = every (eachOk m g (usedCount m g) ∷ ranksOk m g (usedCount m g) ∷ [])

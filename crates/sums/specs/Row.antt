@@ -16,20 +16,20 @@ counts m g d = true
 
 -- drive d's block of row r, and what it adds to the sum
 abbrev pub blockIn : List ℕ → Geometry → ℕ → ℕ → List ℕ
-blockIn m g r d = part m (place g d r) (g .l)
+blockIn m g row d = part m (place g d row) (g .l)
 
 abbrev pub added : List ℕ → Geometry → ℕ → ℕ → List ℕ
-added m g r d = cond (counts m g d) (blockIn m g r d) []
+added m g row d = cond (counts m g d) (blockIn m g row d) []
 
 -- what the first n drives add
 unfoldable pub summedTo : List ℕ → Geometry → ℕ → ℕ → List ℕ
-summedTo m g r zero = []
-summedTo m g r (suc n) = summedTo m g r n ⊻ added m g r n
+summedTo m g row zero = []
+summedTo m g row (suc n) = summedTo m g row n ⊻ added m g row n
 
 -- "A row's sum is the XOR of that block on all drives.": upon zeros, so that it is a block long whichever drives count
 unfoldable pub rowSum : List ℕ → Geometry → ℕ → List ℕ
-rowSum m g r = replicate (g .l) 0 ⊻ summedTo m g r (g .d)
+rowSum m g row = replicate (g .l) 0 ⊻ summedTo m g row (g .d)
 
 -- a row is open where its sum is not zero
 unfoldable pub isOpen : List ℕ → Geometry → ℕ → Bool
-isOpen m g r = not (allBelow (g .l) (λ j. eqb (getD (rowSum m g r) j 0) 0))
+isOpen m g row = not (allBelow (g .l) (λ j. eqb (getD (rowSum m g row) j 0) 0))
