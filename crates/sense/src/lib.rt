@@ -1,11 +1,7 @@
 // The answers of 01, the number of each, and its sense by value.
 ghost use mathlib.Core.Path.{_≡_};
-ghost use mathlib.Core.List.{_++_};
-ghost use Prim.Native.Nat.{_≤_};
-ghost use lib.ListN.{replicate};
-ghost use Rattle.octets.specs.Put.{put};
 ghost use Rattle.sense.specs.Answers.{numberOf};
-ghost use Rattle.sense.specs.Sense.{plainOf, noSense, plainSense, absentSense, nestedSense, senseOf, outcomeOf};
+ghost use Rattle.sense.specs.Sense.{noSense, plainSense, absentSense, nestedSense, senseOf, outcomeOf};
 
 // 01, "Answers and the order of checks".
 pub enum Answer {
@@ -58,44 +54,6 @@ pub struct Outcome {
     pub count: usize,
 }
 
-// A plain sense: byte 0 is first, bytes 3-6 hold the number info, code and qualifier are the pair.
-fn plain(first: u8, info: usize, key: u8, code: u8, qualifier: u8) -> [u8; 18]
-    ensures { λ r. ⌜ r ≡ plainOf first info key code qualifier ⌝ }
-{
-    let mut s = [0u8; 18];
-    s[0] = first;
-    s[2] = key;
-    s[3] = (info / 16777216 % 256) as u8;
-    s[4] = (info / 65536 % 256) as u8;
-    s[5] = (info / 256 % 256) as u8;
-    s[6] = (info % 256) as u8;
-    s[7] = 0x0A;
-    s[12] = code;
-    s[13] = qualifier;
-    s
-}
-
-// The outer bytes with an inner sense copied over them from index at on.
-fn placed(outer: [u8; 37], at: usize, inner: [u8; 18]) -> [u8; 37]
-    requires { ⌜ at ≤ 19 ⌝ }
-    ensures { λ r. ⌜ r ≡ put outer at inner ⌝ }
-{
-    let mut s = outer;
-    let mut i = 0;
-    while i < 18 {
-        s[at + i] = inner[i];
-        i += 1;
-    }
-    s
-}
-
-// A plain sense at the front of 37 bytes.
-fn front(first: u8, info: usize, key: u8, code: u8, qualifier: u8) -> [u8; 37]
-    ensures { λ r. ⌜ r ≡ plainOf first info key code qualifier ++ replicate 19 0 ⌝ }
-{
-    placed([0u8; 37], 0, plain(first, info, key, code, qualifier))
-}
-
 // No sense.
 fn no_sense() -> Sense
     ensures { λ r. ⌜ r ≡ noSense ⌝ }
@@ -110,33 +68,47 @@ fn no_sense() -> Sense
 fn plain_sense(key: u8, code: u8, qualifier: u8) -> Sense
     ensures { λ r. ⌜ r ≡ plainSense key code qualifier ⌝ }
 {
-    let s = front(0x70, 0, key, code, qualifier);
+    let mut s = [0u8; 37];
+    s[0] = 0x70;
+    s[2] = key;
+    s[7] = 0x0A;
+    s[12] = code;
+    s[13] = qualifier;
     Sense { bytes: s, len: 18 }
 }
 
-// Nested: an address that is not in the table.
+// Nested: an address that is not in the table; its plain sense starts at byte 18.
 fn absent_sense() -> Sense
     ensures { λ r. ⌜ r ≡ absentSense ⌝ }
 {
-    let mut s = front(0x70, 0, 0x0B, 0x00, 0x00);
+    let mut s = [0u8; 37];
+    s[0] = 0x70;
+    s[2] = 0x0B;
     s[7] = 0x1C;
     s[8] = 0x12;
-    let inner = plain(0x70, 0, 0x0B, 0x08, 0x00);
-    let b = placed(s, 18, inner);
-    Sense { bytes: b, len: 36 }
+    s[18] = 0x70;
+    s[20] = 0x0B;
+    s[25] = 0x0A;
+    s[30] = 0x08;
+    Sense { bytes: s, len: 36 }
 }
 
-// Nested: status 02h and the sense of the drive that refuses.
+// Nested: status 02h, and from byte 19 on the sense of the drive that refuses.
 fn nested_sense(key: u8, code: u8, qualifier: u8) -> Sense
     ensures { λ r. ⌜ r ≡ nestedSense key code qualifier ⌝ }
 {
-    let mut s = front(0x70, 0, 0x0B, 0x00, 0x00);
+    let mut s = [0u8; 37];
+    s[0] = 0x70;
+    s[2] = 0x0B;
     s[7] = 0x1D;
     s[9] = 0x12;
     s[18] = 0x02;
-    let inner = plain(0x70, 0, key, code, qualifier);
-    let b = placed(s, 19, inner);
-    Sense { bytes: b, len: 37 }
+    s[19] = 0x70;
+    s[21] = key;
+    s[26] = 0x0A;
+    s[31] = code;
+    s[32] = qualifier;
+    Sense { bytes: s, len: 37 }
 }
 
 // The sense of an answer.
