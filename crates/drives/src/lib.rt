@@ -101,6 +101,5 @@ pub fn mark(image: &mut [u8], g: Geometry, i: usize, state: usize)
     ensures { λ _. ⌜ now (image .exit) ≡ marked (now (image .entry)) g i state ⌝ }
 {
     let at = g.entry_at(i);
-    let b = [state as u8];
-    octets::put_at(image, at, &b);
+    image[at] = state as u8;
 }

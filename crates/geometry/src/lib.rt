@@ -54,16 +54,20 @@ impl Geometry {
     fn ranges_ok(self) -> bool
         ensures { λ r. ⌜ r ≡ rangesOk self ⌝ }
     {
-        (2 <= self.d)
-            & (self.d <= 32)
-            & (1 <= self.b)
-            & (self.b <= 65536)
-            & (4 <= self.l)
-            & (self.l <= 4096)
-            & (self.l % 4 == 0)
+        let d = self.d;
+        let b = self.b;
+        let l = self.l;
+        let m = self.m;
+        (2 <= d)
+            & (d <= 32)
+            & (1 <= b)
+            & (b <= 65536)
+            & (4 <= l)
+            & (l <= 4096)
+            & (l % 4 == 0)
             & (self.s <= 16)
-            & (1 <= self.m)
-            & (self.m <= 256)
+            & (1 <= m)
+            & (m <= 256)
     }
 
     fn offsets_ok(self) -> bool

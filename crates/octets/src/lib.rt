@@ -92,14 +92,6 @@ pub fn put_at(xs: &mut [u8], at: usize, src: &[u8])
     copy_into(&mut xs[at..at + n], src);
 }
 
-// Writes n zeros over the bytes of xs from index at on.
-pub fn zero_at(xs: &mut [u8], at: usize, n: usize)
-    requires { ⌜ at + n ≤ length (now xs) ⌝ }
-    ensures { λ _. ⌜ now (xs .exit) ≡ put (now (xs .entry)) at (replicate n 0) ⌝ }
-{
-    fill_zero(&mut xs[at..at + n]);
-}
-
 // XORs the bytes of xs from index at on into acc.
 pub fn xor_from(acc: &mut [u8], xs: &[u8], at: usize)
     requires { ⌜ at + length (now acc) ≤ length (now xs) ⌝ }

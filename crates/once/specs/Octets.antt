@@ -21,9 +21,6 @@ xor-at-once = equation
 pub put-at-once : Only octets.put_at.Reads.Post (λ _ _ s. now (s .0))
 put-at-once = equation
 
-pub zero-at-once : Only octets.zero_at.Reads.Post (λ _ _ s. now (s .0))
-zero-at-once = equation
-
 pub xor-from-once : Only octets.xor_from.Reads.Post (λ _ _ s. now (s .0))
 xor-from-once = equation
 

@@ -2,10 +2,12 @@
 use mathlib.Core.Path.{_≡_, refl, sym, ap, _∙_}
 use mathlib.Core.List.{List, [], _∷_}
 use mathlib.Core.Logic.{inr}
-use Prim.Native.Nat.{ℕ, _+_, _%_, _^_, _≤_, _<_}
+use Prim.Native.Nat.{ℕ, _+_, _*_, _%_, _^_, _≤_, _<_}
 use native.Mathlib.Omega.{arith}
 use lib.Dec.{lit≤}
 use lib.ListN.{length, getD, replicate}
+use mir.Syntax.{w64}
+use mir.Val.{Fits}
 use Rattle.octets.specs.Part.{part}
 use Rattle.octets.specs.Put.{put}
 use Rattle.octets.specs.Number.{be, num, toBe, length-toBe, num-toBe-lt, be-put, be-put-apart, be-part, be-one, toBe1, toBe2, toBe4}
@@ -13,6 +15,7 @@ use Rattle.octets.specs.declared.Four.{Four}
 use Rattle.octets.specs.Four.{fourOf}
 use Rattle.geometry.specs.declared.Geometry.{Geometry}
 use Rattle.geometry.specs.Header.{slotAt}
+use Rattle.geometry.specs.Frame.{Framed}
 use Rattle.slots.specs.declared.Slot.{Slot}
 use Rattle.slots.specs.Record.{recordOf, bytesOf, slotOf, zeroSlot}
 
@@ -69,6 +72,23 @@ record-ranked r v l h =
     cc
 
 -- ---- as the code reads and writes it
+
+-- the record's bytes lie in the image
+module _ (s : List ℕ) (g : Geometry) (at : ℕ) (f : Framed s g) (h : at + 16 + g .m * g .l ≤ g .media) where
+  pub record-room : at + 16 ≤ length s
+  record-room = omega (arith, f .length-is)
+
+  pub rank-room : at + 4 ≤ length s
+  rank-room = omega (arith, record-room)
+
+  pub field-room : (k n : ℕ) → k + n ≤ 16 → at + k + n ≤ length s
+  field-room k n l = omega (arith, record-room)
+
+  pub byte-room : (k : ℕ) → k < 16 → at + k < length s
+  byte-room k l = omega (arith, record-room)
+
+  pub field-fits : (k : ℕ) → k ≤ 16 → length s < 2 ^ 64 → Fits w64 (at + k)
+  field-fits k l b = record { fits = omega (arith, record-room) }
 
 -- the fields read one by one
 pub read-back : (s : List ℕ) (g : Geometry) (i at : ℕ) (r : Slot) → at ≡ slotAt g i → at + 16 ≤ length s

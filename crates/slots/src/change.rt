@@ -73,7 +73,8 @@ pub fn release(image: &mut [u8], g: Geometry, i: usize)
 {
     let at = g.slot_at(i);
     let rank = octets::be4(image, at);
-    octets::zero_at(image, at, RECORD);
+    let zeros = [0u8; RECORD];
+    octets::put_at(image, at, &zeros);
     lower(image, g, rank);
 }
 

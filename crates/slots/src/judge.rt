@@ -18,16 +18,19 @@ fn used_ok(g: Geometry, k: usize, r: Slot) -> bool
     requires { ⌜ Small r ⌝ }
     ensures { λ y. ⌜ y ≡ usedOk g k r ⌝ }
 {
+    let kind = r.kind;
+    let len = r.len;
     let block = r.block;
-    (1 <= r.kind)
-        & (r.kind <= 2)
+    let rank = r.rank;
+    (1 <= kind)
+        & (kind <= 2)
         & (r.drive < g.d)
-        & (1 <= r.len)
-        & (r.len <= g.m)
-        & (block.0 + r.len <= g.b)
+        & (1 <= len)
+        & (len <= g.m)
+        & (block.0 + len <= g.b)
         & (r.last == 0)
-        & (1 <= r.rank)
-        & (r.rank <= k)
+        & (1 <= rank)
+        & (rank <= k)
 }
 
 fn slot_ok(g: Geometry, k: usize, r: Slot) -> bool

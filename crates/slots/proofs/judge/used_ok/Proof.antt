@@ -5,7 +5,7 @@ use Rattle.slots.proofs.judge.used_ok.Statement.{statement}
 use Rattle.slots.proofs.judge.used_ok.Tie as tie
 
 add-result : tie.Need-add-result
-add-result c = let pre = c .before .before .before .before .before .before .before .before .before .before .pre in omega (arith, pre .block-small, pre .len-small)
+add-result c = let pre = c .before .before .before .before .before .pre in omega (arith, pre .block-small, pre .len-small)
 
 pub used-ok-spec : {M : Type 1} → statement M
 used-ok-spec = tie.close (tie.spec add-result (λ c. every-joined _ _))
