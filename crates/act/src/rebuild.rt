@@ -40,7 +40,7 @@ pub fn regenerate(
     requires { ⌜ Framed (now image) g × Allowed (now image) g (now sent) 0 (Regenerate x n int i) × (n < 256) ⌝ }
     ensures { λ _. ⌜ now (image .exit) ≡ leaves (now (image .entry)) g (now (sent .entry)) (Regenerate x n int i) ⌝ }
 {
-    let rank = slots::next_rank(image, g);
+    let rank = slots::used_count(image, g) + 1;
     let at = g.slot_at(i);
     let from = g.place(x.drive, x.block);
     let j = Job {

@@ -43,7 +43,7 @@ pub fn retain(
     requires { ⌜ Framed (now image) g × Allowed (now image) g (now sent) 0 (Retain x i mirror ndisc) ⌝ }
     ensures { λ _. ⌜ now (image .exit) ≡ leaves (now (image .entry)) g (now (sent .entry)) (Retain x i mirror ndisc) ⌝ }
 {
-    let rank = slots::next_rank(image, g);
+    let rank = slots::used_count(image, g) + 1;
     let at = g.slot_at(i);
     let from = g.place(x.drive, x.block);
     let p = Pass {

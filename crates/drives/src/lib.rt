@@ -6,22 +6,14 @@ use rules::Found;
 ghost use mathlib.Core.Path.{_≡_};
 ghost use Prim.Native.Nat.{_<_};
 ghost use Rattle.geometry.specs.Frame.{Framed};
-ghost use Rattle.drives.specs.Table.{stateOf, addressOf, failed, statesOk, newAddress, addressesOk, tableOk, driveOf, marked};
-
-// Drive i's state byte.
-pub fn state(image: &[u8], g: Geometry, i: usize) -> usize
-    requires { ⌜ Framed (now image) g × (i < g .d) ⌝ }
-    ensures { λ r. ⌜ (r ≡ stateOf (now (image .entry)) g i) × (r < 256) ⌝ }
-{
-    octets::byte(image, g.entry_at(i))
-}
+ghost use Rattle.drives.specs.Table.{addressOf, failed, statesOk, newAddress, addressesOk, tableOk, driveOf, marked};
 
 // Has drive i failed?
 pub fn is_failed(image: &[u8], g: Geometry, i: usize) -> bool
     requires { ⌜ Framed (now image) g × (i < g .d) ⌝ }
     ensures { λ r. ⌜ r ≡ failed (now (image .entry)) g i ⌝ }
 {
-    state(image, g, i) == 1
+    octets::byte(image, g.entry_at(i)) == 1
 }
 
 // Drive i's address.
@@ -55,14 +47,13 @@ fn states_ok(image: &[u8], g: Geometry) -> bool
     ensures { λ r. ⌜ r ≡ statesOk (now (image .entry)) g ⌝ }
 {
     let n = g.d;
+    let mut ok = true;
     let mut i = 0;
     while i < n {
-        if 1 < state(image, g, i) {
-            return false;
-        }
+        ok = ok & (octets::byte(image, g.entry_at(i)) <= 1);
         i += 1;
     }
-    true
+    ok
 }
 
 // Is drive i's address none of an earlier drive?
@@ -71,15 +62,14 @@ fn new_address(image: &[u8], g: Geometry, i: usize) -> bool
     ensures { λ r. ⌜ r ≡ newAddress (now (image .entry)) g i ⌝ }
 {
     let own = address(image, g, i);
+    let mut ok = true;
     let mut j = 0;
     while j < i {
         let earlier = address(image, g, j);
-        if earlier.0 == own.0 {
-            return false;
-        }
+        ok = ok & (earlier.0 != own.0);
         j += 1;
     }
-    true
+    ok
 }
 
 // Do all addresses differ?
@@ -88,14 +78,13 @@ fn addresses_ok(image: &[u8], g: Geometry) -> bool
     ensures { λ r. ⌜ r ≡ addressesOk (now (image .entry)) g ⌝ }
 {
     let n = g.d;
+    let mut ok = true;
     let mut i = 0;
     while i < n {
-        if !new_address(image, g, i) {
-            return false;
-        }
+        ok = ok & new_address(image, g, i);
         i += 1;
     }
-    true
+    ok
 }
 
 // Are the states and the addresses right?
@@ -103,13 +92,7 @@ pub fn table_ok(image: &[u8], g: Geometry) -> bool
     requires { ⌜ Framed (now image) g ⌝ }
     ensures { λ r. ⌜ r ≡ tableOk (now (image .entry)) g ⌝ }
 {
-    if !states_ok(image, g) {
-        return false;
-    }
-    if !addresses_ok(image, g) {
-        return false;
-    }
-    true
+    states_ok(image, g) & addresses_ok(image, g)
 }
 
 // Writes drive i's state byte.
@@ -118,6 +101,5 @@ pub fn mark(image: &mut [u8], g: Geometry, i: usize, state: usize)
     ensures { λ _. ⌜ now (image .exit) ≡ marked (now (image .entry)) g i state ⌝ }
 {
     let at = g.entry_at(i);
-    let b = [state as u8];
-    octets::put_at(image, at, &b);
+    image[at] = state as u8;
 }

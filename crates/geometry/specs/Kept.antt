@@ -13,12 +13,24 @@ use Rattle.rules.specs.Every.{every}
 use Rattle.geometry.specs.declared.Geometry.{Geometry}
 use Rattle.geometry.specs.Header.{geometryOf, rangesOk, offsetsOk, endOf, framedOk}
 
+abbrev made : ℕ → ℕ → ℕ → ℕ → ℕ → ℕ → ℕ → ℕ → Geometry
+made d b l s m t o e = record { d = d; b = b; l = l; s = s; m = m; table = t; slots = o; media = e }
+
+same-made : {a b c d e f g h a′ b′ c′ d′ e′ f′ g′ h′ : ℕ} → a ≡ a′ → b ≡ b′ → c ≡ c′ → d ≡ d′ → e ≡ e′ → f ≡ f′ → g ≡ g′ → h ≡ h′
+    → made a b c d e f g h ≡ made a′ b′ c′ d′ e′ f′ g′ h′
+same-made p q r s t u v w = rw (p, q, r, s, t, u, v, w)
+
+-- the header's fields, one by one
+pub fields-geometry : (s : List ℕ) (g : Geometry) → g .d ≡ be 4 s 0 → g .b ≡ be 4 s 4 → g .l ≡ be 4 s 8 → g .s ≡ be 4 s 12 → g .m ≡ be 4 s 16
+    → g .table ≡ be 4 s 20 → g .slots ≡ be 4 s 24 → g .media ≡ be 4 s 28 → g ≡ geometryOf s
+fields-geometry s g d b l n m t o e = same-made d b l n m t o e
+
 -- images with the same front, header included
 pub front-geometry : (s t : List ℕ) (n : ℕ) → part s 0 n ≡ part t 0 n → 32 ≤ n → geometryOf s ≡ geometryOf t
 front-geometry s t n e h =
     let field : (a : ℕ) → a + 4 ≤ 32 → be 4 s a ≡ be 4 t a = (λ a l. front-be s t n e 4 a (omega arith)) in
-    rw (field 0 (lit≤ tt), field 4 (lit≤ tt), field 8 (lit≤ tt), field 12 (lit≤ tt))
-    (rw (field 16 (lit≤ tt), field 20 (lit≤ tt), field 24 (lit≤ tt), field 28 (lit≤ tt)))
+    fields-geometry t (geometryOf s) (field 0 (lit≤ tt)) (field 4 (lit≤ tt)) (field 8 (lit≤ tt)) (field 12 (lit≤ tt))
+    (field 16 (lit≤ tt)) (field 20 (lit≤ tt)) (field 24 (lit≤ tt)) (field 28 (lit≤ tt))
 
 -- a write past the header
 pub geometry-put : (s : List ℕ) (at : ℕ) (ys : List ℕ) → 32 ≤ at → geometryOf (put s at ys) ≡ geometryOf s

@@ -50,65 +50,34 @@ impl Geometry {
         }
     }
 
+    // The tests are joined by `&`: none needs another, and no branch has to be proved.
     fn ranges_ok(self) -> bool
         ensures { λ r. ⌜ r ≡ rangesOk self ⌝ }
     {
         let d = self.d;
         let b = self.b;
         let l = self.l;
-        let s = self.s;
         let m = self.m;
-        if d < 2 {
-            return false;
-        }
-        if 32 < d {
-            return false;
-        }
-        if b < 1 {
-            return false;
-        }
-        if 65536 < b {
-            return false;
-        }
-        if l < 4 {
-            return false;
-        }
-        if 4096 < l {
-            return false;
-        }
-        if l % 4 != 0 {
-            return false;
-        }
-        if 16 < s {
-            return false;
-        }
-        if m < 1 {
-            return false;
-        }
-        if 256 < m {
-            return false;
-        }
-        true
+        (2 <= d)
+            & (d <= 32)
+            & (1 <= b)
+            & (b <= 65536)
+            & (4 <= l)
+            & (l <= 4096)
+            & (l % 4 == 0)
+            & (self.s <= 16)
+            & (1 <= m)
+            & (m <= 256)
     }
 
     fn offsets_ok(self) -> bool
         requires { ⌜ InRange self ⌝ }
         ensures { λ r. ⌜ r ≡ offsetsOk self ⌝ }
     {
-        let table = self.table;
-        let slots = self.slots;
-        let media = self.media;
         let front = 32 + STRIDE * self.d;
-        if table != 32 {
-            return false;
-        }
-        if slots != front {
-            return false;
-        }
-        if media != front + self.s * (RECORD + self.m * self.l) {
-            return false;
-        }
-        true
+        (self.table == 32)
+            & (self.slots == front)
+            & (self.media == front + self.s * (RECORD + self.m * self.l))
     }
 
     // Where the image ends.

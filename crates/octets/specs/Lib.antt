@@ -7,3 +7,4 @@ pub mod Xor
 pub mod Operands
 pub mod Octets
 pub mod Number
+pub mod Four

@@ -5,10 +5,10 @@ use Prim.Native.Nat.{ℕ, zero, suc, _+_, _*_, _/_, _%_, _^_, _≤_, _<_}
 use native.Mathlib.Nat.{suc-inj, pow-suc, pow-succ', mod-eq-of-lt, zero-lt-suc, mod-lt, mod-one, mul-assoc, zero-add, div-one, one-le-pow}
 use native.Mathlib.Omega.{arith}
 use mathlib.Core.List.{List, [], _∷_, _++_}
-use lib.ListN.{length, length-append}
+use lib.ListN.{length, getD, length-append}
 use lib.Arith.{digits-lt, digits-div, digits-mod, mod-mul}
 use Rattle.octets.specs.Octets.{Octets, octets-tail, octets-part}
-use Rattle.octets.specs.Part.{part, length-part, part-part}
+use Rattle.octets.specs.Part.{part, length-part, part-part, part-cons}
 use Rattle.octets.specs.Put.{put}
 use Rattle.octets.specs.PutPut.{part-put, part-put-apart}
 
@@ -109,6 +109,11 @@ be-part n xs at m a h = ap num (part-part xs at m a n h)
 pub be-put-apart : (n : ℕ) (xs : List ℕ) (at : ℕ) (ys : List ℕ) (a : ℕ) → (a + n ≤ at) ⊎ (at + length ys ≤ a) → be n (put xs at ys) a ≡ be n xs a
 be-put-apart n xs at ys a w = ap num (part-put-apart xs at ys a n w)
 
+-- one byte is the number that it writes
+pub be-one : (xs : List ℕ) (at : ℕ) → at < length xs → be 1 xs at ≡ getD xs at 0
+unfolding num part
+be-one xs at h = ap num (part-cons xs at 0 h) ∙ omega arith
+
 -- two lists with the same front have the same numbers there
 pub front-be : (s t : List ℕ) (n : ℕ) → part s 0 n ≡ part t 0 n → (k a : ℕ) → a + k ≤ n → be k s a ≡ be k t a
 front-be s t n e k a l =
@@ -124,10 +129,6 @@ toBe1 v = rw div-one
 pub toBe2 : (v : ℕ) → toBe 2 v ≡ v / 256 % 256 ∷ v % 256 ∷ []
 unfolding toBe
 toBe2 v = rw div-one
-
-pub toBe3 : (v : ℕ) → toBe 3 v ≡ v / 65536 % 256 ∷ v / 256 % 256 ∷ v % 256 ∷ []
-unfolding toBe
-toBe3 v = rw div-one
 
 pub toBe4 : (v : ℕ) → toBe 4 v ≡ v / 16777216 % 256 ∷ v / 65536 % 256 ∷ v / 256 % 256 ∷ v % 256 ∷ []
 unfolding toBe

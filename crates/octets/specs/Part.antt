@@ -90,6 +90,9 @@ pub mid-part : (xs : List ℕ) (at n : ℕ) → take (at + n - at) (drop at xs) 
 unfolding part
 mid-part xs at n = let e : at + n - at ≡ n = omega arith in rw e
 
+pub mid-length : (xs : List ℕ) (at n : ℕ) → at + n ≤ length xs → n ≡ length (take (at + n - at) (drop at xs))
+mid-length xs at n h = sym (ap length (mid-part xs at n) ∙ length-part xs at n h)
+
 -- the front and the end of two joined lists
 pub part-append-front : (xs ys : List ℕ) (n : ℕ) → length xs ≡ n → part (xs ++ ys) 0 n ≡ xs
 unfolding part

@@ -7,7 +7,7 @@ use native.Mathlib.Numerals.{add-one}
 use native.Mathlib.Omega.{arith}
 use mathlib.Core.List.{List, [], _∷_, _++_}
 use lib.ListN.{length, getD, set, take, drop, length-drop}
-use lib.Seq.{length-take-le, take-suc, take-all}
+use lib.Seq.{length-take-le, take-suc}
 use Rattle.octets.specs.Part.{part, length-part, part-part}
 use Rattle.octets.specs.Put.{put, length-put, put-nil, set-put, take-put, drop-put, drop-put-in, take-put-in}
 
@@ -129,10 +129,6 @@ module _ (d : List ℕ) (at : ℕ) (s : List ℕ) (j : ℕ) (x : List ℕ) (e : 
       ∙ ap (λ (k : ℕ). put (put d at t) (at + k) b) l
       ∙ sym (put-append d at t b)
       ∙ ap (put d at) (rw add-one (sym (take-suc s j 0 h)))
-
-  -- after the last
-  pub put-done : {n : ℕ} → length s ≡ n → n ≤ j → x ≡ put d at s
-  put-done l h = e ∙ ap (put d at) (take-all j s (omega arith))
 
 -- over the front of d
 pub put-more : (d s : List ℕ) (j : ℕ) → j < length s → set (put d 0 (take j s)) j (getD s j 0) ≡ put d 0 (take (suc j) s)

@@ -5,14 +5,12 @@
 // (big-endian numbers). Only the functions named `_at` lend a part of a mutable slice.
 mod number;
 
-pub use number::be1;
 pub use number::be2;
 pub use number::be3;
 pub use number::be4;
 pub use number::byte;
-pub use number::put_be2;
-pub use number::put_be3;
 pub use number::put_be4;
+pub use number::to_be4;
 ghost use mathlib.Core.Path.{_≡_};
 ghost use mathlib.Core.List.{[], _∷_};
 ghost use Prim.Native.Nat.{_+_, _≤_, min};
@@ -21,6 +19,9 @@ ghost use Rattle.octets.specs.Part.{part};
 ghost use Rattle.octets.specs.Put.{put};
 ghost use Rattle.octets.specs.Xor.{_⊻_};
 ghost use Rattle.octets.specs.Operands.{xorAll};
+
+// The last four bytes of a number, the highest first.
+pub struct Four(pub u8, pub u8, pub u8, pub u8);
 
 // XORs src into dst. It has no locals but an index, so its stack does not grow with the block.
 pub fn xor_into(dst: &mut [u8], src: &[u8])
@@ -89,14 +90,6 @@ pub fn put_at(xs: &mut [u8], at: usize, src: &[u8])
 {
     let n = src.len();
     copy_into(&mut xs[at..at + n], src);
-}
-
-// Writes n zeros over the bytes of xs from index at on.
-pub fn zero_at(xs: &mut [u8], at: usize, n: usize)
-    requires { ⌜ at + n ≤ length (now xs) ⌝ }
-    ensures { λ _. ⌜ now (xs .exit) ≡ put (now (xs .entry)) at (replicate n 0) ⌝ }
-{
-    fill_zero(&mut xs[at..at + n]);
 }
 
 // XORs the bytes of xs from index at on into acc.

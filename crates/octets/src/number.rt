@@ -1,9 +1,11 @@
 // Big-endian numbers in a slice. They are read as `usize`, so that sums of them need no casts.
+use crate::Four;
 ghost use mathlib.Core.Path.{_≡_};
 ghost use Prim.Native.Nat.{_+_, _<_, _≤_, _^_};
 ghost use lib.ListN.{length, getD};
 ghost use Rattle.octets.specs.Put.{put};
 ghost use Rattle.octets.specs.Number.{be, toBe};
+ghost use Rattle.octets.specs.Four.{fourOf};
 
 fn wide(x: u8) -> usize
     ensures { λ r. ⌜ (r ≡ x) × (r < 256) ⌝ }
@@ -33,13 +35,6 @@ fn number(xs: &[u8], at: usize, n: usize) -> usize
     v
 }
 
-pub fn be1(xs: &[u8], at: usize) -> usize
-    requires { ⌜ at + 1 ≤ length (now xs) ⌝ }
-    ensures { λ r. ⌜ (r ≡ be 1 (now (xs .entry)) at) × (r < 256) ⌝ }
-{
-    number(xs, at, 1)
-}
-
 pub fn be2(xs: &[u8], at: usize) -> usize
     requires { ⌜ at + 2 ≤ length (now xs) ⌝ }
     ensures { λ r. ⌜ (r ≡ be 2 (now (xs .entry)) at) × (r < 65536) ⌝ }
@@ -61,26 +56,16 @@ pub fn be4(xs: &[u8], at: usize) -> usize
     number(xs, at, 4)
 }
 
-// Writes v's last two bytes at index at.
-pub fn put_be2(xs: &mut [u8], at: usize, v: usize)
-    requires { ⌜ at + 2 ≤ length (now xs) ⌝ }
-    ensures { λ _. ⌜ now (xs .exit) ≡ put (now (xs .entry)) at (toBe 2 v) ⌝ }
+// v's last four bytes.
+pub fn to_be4(v: usize) -> Four
+    ensures { λ r. ⌜ r ≡ fourOf v ⌝ }
 {
-    let b = [(v / 256 % 256) as u8, (v % 256) as u8];
-    crate::put_at(xs, at, &b);
-}
-
-// Writes v's last three bytes at index at.
-pub fn put_be3(xs: &mut [u8], at: usize, v: usize)
-    requires { ⌜ at + 3 ≤ length (now xs) ⌝ }
-    ensures { λ _. ⌜ now (xs .exit) ≡ put (now (xs .entry)) at (toBe 3 v) ⌝ }
-{
-    let b = [
+    Four(
+        (v / 16777216 % 256) as u8,
         (v / 65536 % 256) as u8,
         (v / 256 % 256) as u8,
         (v % 256) as u8,
-    ];
-    crate::put_at(xs, at, &b);
+    )
 }
 
 // Writes v's last four bytes at index at.
@@ -88,11 +73,7 @@ pub fn put_be4(xs: &mut [u8], at: usize, v: usize)
     requires { ⌜ at + 4 ≤ length (now xs) ⌝ }
     ensures { λ _. ⌜ now (xs .exit) ≡ put (now (xs .entry)) at (toBe 4 v) ⌝ }
 {
-    let b = [
-        (v / 16777216 % 256) as u8,
-        (v / 65536 % 256) as u8,
-        (v / 256 % 256) as u8,
-        (v % 256) as u8,
-    ];
+    let w = to_be4(v);
+    let b = [w.0, w.1, w.2, w.3];
     crate::put_at(xs, at, &b);
 }

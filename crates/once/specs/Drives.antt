@@ -5,9 +5,6 @@ use denote.Ref.{now}
 use Rattle.drives.proofs as drives
 use Rattle.once.specs.Only.{Only, equation, bounded, from}
 
-pub state-once : Only drives.state.Reads.Post (λ _ r _. r)
-state-once = bounded
-
 pub is-failed-once : Only drives.is_failed.Reads.Post (λ _ r _. r)
 is-failed-once = equation
 

@@ -21,9 +21,6 @@ xor-at-once = equation
 pub put-at-once : Only octets.put_at.Reads.Post (λ _ _ s. now (s .0))
 put-at-once = equation
 
-pub zero-at-once : Only octets.zero_at.Reads.Post (λ _ _ s. now (s .0))
-zero-at-once = equation
-
 pub xor-from-once : Only octets.xor_from.Reads.Post (λ _ _ s. now (s .0))
 xor-from-once = equation
 
@@ -39,9 +36,6 @@ least-once = equation
 pub byte-once : Only octets.byte.Reads.Post (λ _ r _. r)
 byte-once = bounded
 
-pub be1-once : Only octets.be1.Reads.Post (λ _ r _. r)
-be1-once = bounded
-
 pub be2-once : Only octets.be2.Reads.Post (λ _ r _. r)
 be2-once = bounded
 
@@ -51,11 +45,8 @@ be3-once = bounded
 pub be4-once : Only octets.be4.Reads.Post (λ _ r _. r)
 be4-once = bounded
 
-pub put-be2-once : Only octets.put_be2.Reads.Post (λ _ _ s. now (s .0))
-put-be2-once = equation
-
-pub put-be3-once : Only octets.put_be3.Reads.Post (λ _ _ s. now (s .0))
-put-be3-once = equation
-
 pub put-be4-once : Only octets.put_be4.Reads.Post (λ _ _ s. now (s .0))
 put-be4-once = equation
+
+pub to-be4-once : Only octets.to_be4.Reads.Post (λ _ r _. r)
+to-be4-once = equation

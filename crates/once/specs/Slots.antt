@@ -6,12 +6,6 @@ use Rattle.once.specs.Only.{Only, equation, bounded}
 pub write-record-once : Only slots.write_record.Reads.Post (λ _ _ s. now (s .0))
 write-record-once = equation
 
-pub next-rank-once : Only slots.next_rank.Reads.Post (λ _ r _. r)
-next-rank-once = equation
-
-pub retain-once : Only slots.retain.Reads.Post (λ _ _ s. now (s .0))
-retain-once = equation
-
 pub release-once : Only slots.release.Reads.Post (λ _ _ s. now (s .0))
 release-once = equation
 
@@ -32,6 +26,3 @@ slots-ok-once = equation
 
 pub read-slot-once : Only slots.read_slot.Reads.Post (λ _ r _. r)
 read-slot-once = bounded
-
-pub is-used-once : Only slots.is_used.Reads.Post (λ _ r _. r)
-is-used-once = equation

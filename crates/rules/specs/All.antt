@@ -24,6 +24,14 @@ module _ (p : ℕ → Bool) where
   unfolding allBelow
   all-more i a h = rw add-one (and-eq-true-iff (allBelow i p) (p i) .1 (a, h))
 
+  -- a loop that joins the tests by `&`: a turn, and the end
+  pub all-turn : (i : ℕ) (ok b : Bool) → ok ≡ allBelow i p → b ≡ p i → (ok && b) ≡ allBelow (i + 1) p
+  unfolding allBelow
+  all-turn i ok b e t = rw add-one (ap₂ _&&_ e t)
+
+  pub all-end : (n i : ℕ) (ok : Bool) → ok ≡ allBelow i p → i ≤ n → n ≤ i → ok ≡ allBelow n p
+  all-end n i ok e h l = e ∙ ap (λ (k : ℕ). allBelow k p) (omega arith)
+
   -- one that fails
   pub all-not : (n i : ℕ) → i < n → p i ≡ false → allBelow n p ≡ false
   unfolding allBelow

@@ -6,7 +6,8 @@ use native.Mathlib.Numerals.{add-one}
 use native.Mathlib.Omega.{arith}
 use mathlib.Core.Bool.{Bool, true, false, cond, true≢false}
 use mathlib.Core.Path.{_≡_, refl, sym, ap, ap₂, _∙_}
-use mathlib.Core.Logic.{_⊎_, ⊎-elim}
+use mathlib.Core.Logic.{⊎-elim}
+use mir.Val.{boolByte}
 use Rattle.rules.specs.Cases.{either, last-or-below}
 
 -- how many numbers below n have p
@@ -42,13 +43,10 @@ module _ (p : ℕ → Bool) where
   count-le zero = omega arith
   count-le (suc n) = ⊎-elim (λ e. rw e (omega (arith, count-le n))) (λ e. rw e (omega (arith, count-le n))) (either (p n))
 
-  -- a turn of a loop with a count k of its own, by the test b that it made
-  pub count-turn : (i k k′ : ℕ) (b : Bool) → k ≡ countBelow i p → b ≡ p i → ((b ≡ true) × (k′ ≡ k + 1)) ⊎ ((b ≡ false) × (k′ ≡ k))
-      → (k′ ≤ i + 1) × (k′ ≡ countBelow (i + 1) p)
-  count-turn i k k′ b e t w =
-      let q : k′ ≡ countBelow (i + 1) p =
-      ⊎-elim (λ h. h .1 ∙ ap (λ (x : ℕ). x + 1) e ∙ sym (count-hit i (sym t ∙ h .0))) (λ h. h .1 ∙ e ∙ sym (count-miss i (sym t ∙ h .0))) w in
-      (omega (arith, count-le (i + 1)), q)
+  -- a turn of a loop that adds the test that it made as a number
+  pub count-turn : (i k : ℕ) (b : Bool) → k ≡ countBelow i p → b ≡ p i → (k + boolByte b ≤ i + 1) × (k + boolByte b ≡ countBelow (i + 1) p)
+  count-turn i k true e t = let q = ap (λ (x : ℕ). x + 1) e ∙ sym (count-hit i (sym t)) in (omega (arith, q, count-le (i + 1)), q)
+  count-turn i k false e t = let q = add-zero k ∙ e ∙ sym (count-miss i (sym t)) in (omega (arith, q, count-le (i + 1)), q)
 
   -- a count that is not 0: some number has p
   pub count-some : (n : ℕ) → 0 < countBelow n p → (i : ℕ) × ((i < n) × (p i ≡ true))

@@ -2,7 +2,7 @@
 -- Assumes nothing.
 use Prim.Native.Nat.{ℕ, zero, suc}
 use mathlib.Core.List.{List, [], _∷_}
-use mathlib.Core.Bool.{Bool, true, false, cond, false≢true, true≢false}
+use mathlib.Core.Bool.{Bool, true, false, cond, _&&_, false≢true, true≢false}
 use mathlib.Core.Path.{_≡_, refl, ap₂}
 use lib.ListN.{getD}
 use Rattle.rules.specs.Each.{EachIs}
@@ -43,6 +43,18 @@ fails [] i e = e
 fails (true ∷ ts) zero e = absurd (true≢false e)
 fails (true ∷ ts) (suc i) e = fails ts i e
 fails (false ∷ ts) i e = refl
+
+-- the tests as code joins them by `&`, which is cheaper to prove than a branch for each
+abbrev pub joined : Bool → List Bool → Bool
+joined t [] = t
+joined t (u ∷ us) = joined (t && u) us
+
+pub every-joined : (t : Bool) (ts : List Bool) → joined t ts ≡ every (t ∷ ts)
+unfolding every
+every-joined true [] = refl
+every-joined false [] = refl
+every-joined true (u ∷ us) = every-joined u us
+every-joined false (u ∷ us) = every-joined false us
 
 -- two lists that agree entry by entry
 abbrev pub Alike : List Bool → List Bool → Type 0

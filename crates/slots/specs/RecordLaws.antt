@@ -2,14 +2,20 @@
 use mathlib.Core.Path.{_≡_, refl, sym, ap, _∙_}
 use mathlib.Core.List.{List, [], _∷_}
 use mathlib.Core.Logic.{inr}
-use Prim.Native.Nat.{ℕ, _+_, _/_, _%_, _^_, _≤_, _<_}
+use Prim.Native.Nat.{ℕ, _+_, _*_, _%_, _^_, _≤_, _<_}
 use native.Mathlib.Omega.{arith}
-use lib.ListN.{length, replicate}
+use lib.Dec.{lit≤}
+use lib.ListN.{length, getD, replicate}
+use mir.Syntax.{w64}
+use mir.Val.{Fits}
 use Rattle.octets.specs.Part.{part}
 use Rattle.octets.specs.Put.{put}
-use Rattle.octets.specs.Number.{be, num, toBe, length-toBe, num-toBe-lt, be-put, be-put-apart, be-part, toBe1, toBe2, toBe4}
+use Rattle.octets.specs.Number.{be, num, toBe, length-toBe, num-toBe-lt, be-put, be-put-apart, be-part, be-one, toBe1, toBe2, toBe4}
+use Rattle.octets.specs.declared.Four.{Four}
+use Rattle.octets.specs.Four.{fourOf}
 use Rattle.geometry.specs.declared.Geometry.{Geometry}
 use Rattle.geometry.specs.Header.{slotAt}
+use Rattle.geometry.specs.Frame.{Framed}
 use Rattle.slots.specs.declared.Slot.{Slot}
 use Rattle.slots.specs.Record.{recordOf, bytesOf, slotOf, zeroSlot}
 
@@ -67,18 +73,35 @@ record-ranked r v l h =
 
 -- ---- as the code reads and writes it
 
+-- the record's bytes lie in the image
+module _ (s : List ℕ) (g : Geometry) (at : ℕ) (f : Framed s g) (h : at + 16 + g .m * g .l ≤ g .media) where
+  pub record-room : at + 16 ≤ length s
+  record-room = omega (arith, f .length-is)
+
+  pub rank-room : at + 4 ≤ length s
+  rank-room = omega (arith, record-room)
+
+  pub field-room : (k n : ℕ) → k + n ≤ 16 → at + k + n ≤ length s
+  field-room k n l = omega (arith, record-room)
+
+  pub byte-room : (k : ℕ) → k < 16 → at + k < length s
+  byte-room k l = omega (arith, record-room)
+
+  pub field-fits : (k : ℕ) → k ≤ 16 → length s < 2 ^ 64 → Fits w64 (at + k)
+  field-fits k l b = record { fits = omega (arith, record-room) }
+
 -- the fields read one by one
-pub read-back : (s : List ℕ) (g : Geometry) (i at : ℕ) (r : Slot) → at ≡ slotAt g i
-    → (r .rank ≡ be 4 s at) × (r .rank < 4294967296) → (r .kind ≡ be 1 s (at + 4)) × (r .kind < 256) → (r .drive ≡ be 1 s (at + 5)) × (r .drive < 256)
+pub read-back : (s : List ℕ) (g : Geometry) (i at : ℕ) (r : Slot) → at ≡ slotAt g i → at + 16 ≤ length s
+    → (r .rank ≡ be 4 s at) × (r .rank < 4294967296) → (r .kind ≡ getD s (at + 4) 0) × (r .kind < 256) → (r .drive ≡ getD s (at + 5) 0) × (r .drive < 256)
     → (r .len ≡ be 2 s (at + 6)) × (r .len < 65536) → (r .block .0 ≡ be 4 s (at + 8)) × (r .block .0 < 4294967296) → (r .last ≡ be 4 s (at + 12)) × (r .last < 4294967296)
     → (r ≡ slotOf s g i) × Small r
 unfolding slotOf
-read-back s g i at r a p0 p1 p2 p3 p4 p5 =
+read-back s g i at r a room p0 p1 p2 p3 p4 p5 =
     let z : at ≡ at + 0 = omega arith in
     let field : (n k : ℕ) → k + n ≤ 16 → be n s (at + k) ≡ be n (part s (slotAt g i) 16) k =
     (λ n k h. ap (λ (x : ℕ). be n s (x + k)) a ∙ sym (be-part n s (slotAt g i) 16 k h)) in (
-      same-slot r (recordOf (part s (slotAt g i) 16)) (p0 .0 ∙ ap (be 4 s) z ∙ field 4 0 (omega arith)) (p1 .0 ∙ field 1 4 (omega arith))
-          (p2 .0 ∙ field 1 5 (omega arith)) (p3 .0 ∙ field 2 6 (omega arith)) (p4 .0 ∙ field 4 8 (omega arith)) (p5 .0 ∙ field 4 12 (omega arith)),
+      same-slot r (recordOf (part s (slotAt g i) 16)) (p0 .0 ∙ ap (be 4 s) z ∙ field 4 0 (omega arith)) (p1 .0 ∙ sym (be-one s (at + 4) (omega arith)) ∙ field 1 4 (omega arith))
+          (p2 .0 ∙ sym (be-one s (at + 5) (omega arith)) ∙ field 1 5 (omega arith)) (p3 .0 ∙ field 2 6 (omega arith)) (p4 .0 ∙ field 4 8 (omega arith)) (p5 .0 ∙ field 4 12 (omega arith)),
       record {
         rank-small = p0 .1;
         kind-small = p1 .1;
@@ -89,9 +112,17 @@ read-back s g i at r a p0 p1 p2 p3 p4 p5 =
       },
     )
 
-pub stored-bytes : (r : Slot)
-    → r .rank / 16777216 % 256 ∷ r .rank / 65536 % 256 ∷ r .rank / 256 % 256 ∷ r .rank % 256 ∷ r .kind % 256 ∷ r .drive % 256 ∷ r .len / 256 % 256 ∷ r .len % 256
-    ∷ r .block .0 / 16777216 % 256 ∷ r .block .0 / 65536 % 256 ∷ r .block .0 / 256 % 256 ∷ r .block .0 % 256
-    ∷ r .last / 16777216 % 256 ∷ r .last / 65536 % 256 ∷ r .last / 256 % 256 ∷ r .last % 256 ∷ [] ≡ bytesOf r
+-- the rank alone
+pub rank-at : (s : List ℕ) (g : Geometry) (i at old : ℕ) → at ≡ slotAt g i → old ≡ be 4 s at → old ≡ slotOf s g i .rank
+unfolding slotOf
+rank-at s g i at old a e =
+    let z : at ≡ slotAt g i + 0 = omega arith in
+    e ∙ ap (be 4 s) z ∙ sym (be-part 4 s (slotAt g i) 16 0 (lit≤ tt))
+
+pub stored-bytes : (r : Slot) (rank len first last : Four) → rank ≡ fourOf (r .rank) → len ≡ fourOf (r .len) → first ≡ fourOf (r .block .0) → last ≡ fourOf (r .last)
+    → rank .0 ∷ rank .1 ∷ rank .2 ∷ rank .3 ∷ r .kind % 256 ∷ r .drive % 256 ∷ len .2 ∷ len .3 ∷ first .0 ∷ first .1 ∷ first .2 ∷ first .3 ∷ last .0 ∷ last .1 ∷ last .2 ∷ last .3 ∷ []
+    ≡ bytesOf r
 unfolding bytesOf
-stored-bytes r = rw (toBe4 (r .rank), toBe4 (r .block .0), toBe4 (r .last), toBe2 (r .len), toBe1 (r .kind), toBe1 (r .drive))
+stored-bytes r rank len first last e0 e1 e2 e3 =
+    rw (e0, e1, e2, e3)
+    (rw (toBe4 (r .rank), toBe4 (r .block .0), toBe4 (r .last), toBe2 (r .len), toBe1 (r .kind), toBe1 (r .drive)))

@@ -1,42 +1,45 @@
 -- How the searches and changes go on from slot to slot, as the code does. Assumes nothing.
 use mathlib.Core.Path.{_≡_, refl, sym, ap, ap₂, _∙_}
 use mathlib.Core.List.{List, [], _∷_}
-use mathlib.Core.Bool.{true, false}
+use mathlib.Core.Bool.{Bool, true, false, _&&_}
 use Prim.Native.Nat.{ℕ, _+_, _-_, _≤_, _<_}
 use native.Mathlib.Numerals.{add-one}
 use native.Mathlib.Omega.{arith}
 use lib.ListN.{length, replicate}
-use lib.Dec.{ltb}
+use lib.Dec.{ltb, eqb}
 use borrow.Author.Tests.{lt-ltb, le-ltb}
 use Rattle.octets.specs.Put.{put}
 use Rattle.octets.specs.PutPut.{put-comm, put-append}
-use Rattle.octets.specs.Number.{toBe}
+use Rattle.octets.specs.Number.{be, toBe}
 use Rattle.rules.specs.declared.Found.the-variants.{At, Nothing}
-use Rattle.rules.specs.Every.{fails, every-of}
+use Rattle.rules.specs.Every.{every, every-joined}
 use Rattle.geometry.specs.declared.Geometry.{Geometry}
 use Rattle.geometry.specs.Header.{slotAt}
 use Rattle.slots.specs.declared.Slot.{Slot}
 use Rattle.slots.specs.declared.Best.{Best}
-use Rattle.slots.specs.Record.{slotOf, bytesOf}
-use Rattle.slots.specs.RecordLaws.{length-bytes}
+use Rattle.slots.specs.Record.{slotOf, bytesOf, isUsed}
+use Rattle.slots.specs.RecordLaws.{length-bytes, rank-at}
 use Rattle.slots.specs.Slots.{usedCount}
 use Rattle.slots.specs.Find.{emptySlot, wanted, better, bestOf, newestOf}
-use Rattle.slots.specs.Change.{entry, retained, lowerOne, lowered, released, ofDrive, dropOne, droppedTo, dropped}
+use Rattle.slots.specs.Change.{entry, retained, lowerOne, lowered, released, dropOne, droppedTo, dropped}
 
 -- ---- the newest
 
 module _ (drive block : ℕ) (b : Best) (i : ℕ) (r : Slot) where
-  pub better-other : wanted drive block r ≡ false → b ≡ better drive block b i r
-  unfolding better
-  better-other e = rw (fails _ 0 e)
+  -- the four tests, joined, say whether slot i is better
+  test-better : (isUsed r && eqb (r .drive) drive && eqb (r .block .0) block && ltb (b .top) (r .rank)) ≡ every (wanted drive block r ∷ ltb (b .top) (r .rank) ∷ [])
+  test-better =
+      ap (λ (t : Bool). t && ltb (b .top) (r .rank)) (every-joined (isUsed r) (eqb (r .drive) drive ∷ eqb (r .block .0) block ∷ []))
+      ∙ every-joined (wanted drive block r) (ltb (b .top) (r .rank) ∷ [])
 
-  pub better-older : r .rank ≤ b .top → b ≡ better drive block b i r
+  pub better-not : (isUsed r && eqb (r .drive) drive && eqb (r .block .0) block && ltb (b .top) (r .rank)) ≡ false → b ≡ better drive block b i r
   unfolding better
-  better-older l = rw (fails _ 1 (le-ltb _ _ l))
+  better-not e = rw (sym test-better ∙ e)
 
-  pub better-newer : wanted drive block r ≡ true → b .top < r .rank → record { top = r .rank; found = At i } ≡ better drive block b i r
+  pub better-newer : (isUsed r && eqb (r .drive) drive && eqb (r .block .0) block && ltb (b .top) (r .rank)) ≡ true
+      → record { top = r .rank; found = At i } ≡ better drive block b i r
   unfolding better
-  better-newer e l = rw (every-of (wanted drive block r ∷ ltb (b .top) (r .rank) ∷ []) (e, (lt-ltb _ _ l, tt)))
+  better-newer e = rw (sym test-better ∙ e)
 
 module _ (s : List ℕ) (g : Geometry) (drive block : ℕ) where
   pub best-none : record { top = 0; found = Nothing } ≡ bestOf s g drive block 0
@@ -67,19 +70,15 @@ retained-at s g kind drive block n bytes i at rank s₁ s₂ e a k p q =
     ∙ sym (put-append s at r bytes)
     ∙ rw (e, a, k)
 
-pub retained-none : (s : List ℕ) (g : Geometry) (kind drive block n : ℕ) (bytes : List ℕ) → emptySlot s g ≡ Nothing → s ≡ retained s g kind drive block n bytes
-unfolding retained
-retained-none s g kind drive block n bytes e = rw e
-
 -- ---- a result goes
 
-pub lower-hit : (g : Geometry) (rank i : ℕ) (s : List ℕ) (r : Slot) (at : ℕ) → r ≡ slotOf s g i → at ≡ slotAt g i → rank < r .rank → put s at (toBe 4 (r .rank - 1)) ≡ lowerOne g rank i s
+pub lower-hit : (g : Geometry) (rank i : ℕ) (s : List ℕ) (at old : ℕ) → at ≡ slotAt g i → old ≡ be 4 s at → rank < old → put s at (toBe 4 (old - 1)) ≡ lowerOne g rank i s
 unfolding lowerOne
-lower-hit g rank i s r at e a l = rw (sym e, lt-ltb _ _ l, a)
+lower-hit g rank i s at old a e l = rw (sym (rank-at s g i at old a e), lt-ltb _ _ l, a)
 
-pub lower-miss : (g : Geometry) (rank i : ℕ) (s : List ℕ) (r : Slot) → r ≡ slotOf s g i → r .rank ≤ rank → s ≡ lowerOne g rank i s
+pub lower-miss : (g : Geometry) (rank i : ℕ) (s : List ℕ) (at old : ℕ) → at ≡ slotAt g i → old ≡ be 4 s at → old ≤ rank → s ≡ lowerOne g rank i s
 unfolding lowerOne
-lower-miss g rank i s r e l = rw (sym e, le-ltb _ _ l)
+lower-miss g rank i s at old a e l = rw (sym (rank-at s g i at old a e), le-ltb _ _ l)
 
 pub lowered-none : (g : Geometry) (rank : ℕ) (s : List ℕ) → s ≡ lowered g rank 0 s
 unfolding lowered
@@ -92,20 +91,20 @@ lowered-more g rank n s s₀ e = rw (add-one n) (ap (lowerOne g rank n) e)
 pub lowered-done : (g : Geometry) (rank i : ℕ) (s s₀ : List ℕ) → s ≡ lowered g rank i s₀ → i ≤ g .s → g .s ≤ i → s ≡ lowered g rank (g .s) s₀
 lowered-done g rank i s s₀ e h l = let q : i ≡ g .s = omega arith in e ∙ ap (λ (k : ℕ). lowered g rank k s₀) q
 
-pub released-by : (s : List ℕ) (g : Geometry) (i at rank : ℕ) (r : Slot) (s₁ s₂ : List ℕ) → r ≡ slotOf s g i → rank ≡ r .rank → at ≡ slotAt g i → s₁ ≡ put s at (replicate 16 0)
+pub released-by : (s : List ℕ) (g : Geometry) (i at rank : ℕ) (s₁ s₂ : List ℕ) → at ≡ slotAt g i → rank ≡ be 4 s at → s₁ ≡ put s at (replicate 16 0)
     → s₂ ≡ lowered g rank (g .s) s₁ → s₂ ≡ released s g i
 unfolding released
-released-by s g i at rank r s₁ s₂ e k a p q = q ∙ rw (p, a, k, e)
+released-by s g i at rank s₁ s₂ a k p q = q ∙ rw (p, rank-at s g i at rank a k, a)
 
 -- ---- all of a drive's go
 
-pub drop-hit : (g : Geometry) (drive i : ℕ) (s : List ℕ) (r : Slot) → r ≡ slotOf s g i → ofDrive drive r ≡ true → released s g i ≡ dropOne g drive i s
+pub drop-hit : (g : Geometry) (drive i : ℕ) (s : List ℕ) (r : Slot) → r ≡ slotOf s g i → (isUsed r && eqb (r .drive) drive) ≡ true → released s g i ≡ dropOne g drive i s
 unfolding dropOne
-drop-hit g drive i s r e t = rw (sym e, t)
+drop-hit g drive i s r e t = rw (sym e, sym (every-joined (isUsed r) (eqb (r .drive) drive ∷ [])) ∙ t)
 
-pub drop-miss : (g : Geometry) (drive i : ℕ) (s : List ℕ) (r : Slot) → r ≡ slotOf s g i → ofDrive drive r ≡ false → s ≡ dropOne g drive i s
+pub drop-miss : (g : Geometry) (drive i : ℕ) (s : List ℕ) (r : Slot) → r ≡ slotOf s g i → (isUsed r && eqb (r .drive) drive) ≡ false → s ≡ dropOne g drive i s
 unfolding dropOne
-drop-miss g drive i s r e t = rw (sym e, t)
+drop-miss g drive i s r e t = rw (sym e, sym (every-joined (isUsed r) (eqb (r .drive) drive ∷ [])) ∙ t)
 
 pub dropped-none : (g : Geometry) (drive : ℕ) (s : List ℕ) → s ≡ droppedTo g drive 0 s
 unfolding droppedTo

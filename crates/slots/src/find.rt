@@ -6,7 +6,7 @@ use geometry::Geometry;
 use rules::Found;
 ghost use mathlib.Core.Path.{_≡_};
 ghost use Rattle.geometry.specs.Frame.{Framed};
-ghost use Rattle.slots.specs.Find.{emptySlot, wanted, better, newestOf};
+ghost use Rattle.slots.specs.Find.{emptySlot, better, newestOf};
 
 // The lowest-numbered empty slot.
 pub fn empty_slot(image: &[u8], g: Geometry) -> Found
@@ -16,7 +16,8 @@ pub fn empty_slot(image: &[u8], g: Geometry) -> Found
     let n = g.s;
     let mut i = 0;
     while i < n {
-        if !crate::is_used(crate::read_slot(image, g, i)) {
+        let r = crate::read_slot(image, g, i);
+        if r.kind == 0 {
             return Found::At(i);
         }
         i += 1;
@@ -24,36 +25,18 @@ pub fn empty_slot(image: &[u8], g: Geometry) -> Found
     Found::Nothing
 }
 
-// Is it a result of the drive at the block?
-fn is_wanted(drive: usize, block: Block, r: Slot) -> bool
-    ensures { λ y. ⌜ y ≡ wanted drive (block .0) r ⌝ }
-{
-    let own = r.block;
-    if r.kind == 0 {
-        return false;
-    }
-    if r.drive != drive {
-        return false;
-    }
-    if own.0 != block.0 {
-        return false;
-    }
-    true
-}
-
-// The best so far, or slot i where it is wanted and newer.
+// The best so far, or slot i where it is the drive's result at the block, and newer.
 fn pick(b: Best, drive: usize, block: Block, i: usize, r: Slot) -> Best
     ensures { λ y. ⌜ y ≡ better drive (block .0) b i r ⌝ }
 {
-    if !is_wanted(drive, block, r) {
-        return b;
-    }
-    if r.rank <= b.top {
-        return b;
-    }
-    Best {
-        top: r.rank,
-        found: Found::At(i),
+    let own = r.block;
+    if (r.kind != 0) & (r.drive == drive) & (own.0 == block.0) & (b.top < r.rank) {
+        Best {
+            top: r.rank,
+            found: Found::At(i),
+        }
+    } else {
+        b
     }
 }
 

@@ -5,28 +5,13 @@ ghost use mathlib.Core.Path.{_≡_};
 ghost use Prim.Native.Nat.{_≤_};
 ghost use Rattle.geometry.specs.Frame.{Framed};
 ghost use Rattle.slots.specs.RecordLaws.{Small};
-ghost use Rattle.slots.specs.Slots.{emptyOk, usedOk, slotOk, usedCount, hasRank, rankCount, slotsOk, eachOk, ranksOk};
+ghost use Rattle.slots.specs.Slots.{emptyOk, usedOk, slotOk, usedCount, rankCount, slotsOk, eachOk, ranksOk};
 
 fn empty_ok(r: Slot) -> bool
     ensures { λ y. ⌜ y ≡ emptyOk r ⌝ }
 {
     let block = r.block;
-    if r.rank != 0 {
-        return false;
-    }
-    if r.drive != 0 {
-        return false;
-    }
-    if r.len != 0 {
-        return false;
-    }
-    if block.0 != 0 {
-        return false;
-    }
-    if r.last != 0 {
-        return false;
-    }
-    true
+    (r.rank == 0) & (r.drive == 0) & (r.len == 0) & (block.0 == 0) & (r.last == 0)
 }
 
 fn used_ok(g: Geometry, k: usize, r: Slot) -> bool
@@ -34,39 +19,18 @@ fn used_ok(g: Geometry, k: usize, r: Slot) -> bool
     ensures { λ y. ⌜ y ≡ usedOk g k r ⌝ }
 {
     let kind = r.kind;
-    let drive = r.drive;
     let len = r.len;
     let block = r.block;
-    let last = r.last;
     let rank = r.rank;
-    if kind < 1 {
-        return false;
-    }
-    if 2 < kind {
-        return false;
-    }
-    if g.d <= drive {
-        return false;
-    }
-    if len < 1 {
-        return false;
-    }
-    if g.m < len {
-        return false;
-    }
-    if g.b < block.0 + len {
-        return false;
-    }
-    if last != 0 {
-        return false;
-    }
-    if rank < 1 {
-        return false;
-    }
-    if k < rank {
-        return false;
-    }
-    true
+    (1 <= kind)
+        & (kind <= 2)
+        & (r.drive < g.d)
+        & (1 <= len)
+        & (len <= g.m)
+        & (block.0 + len <= g.b)
+        & (r.last == 0)
+        & (1 <= rank)
+        & (rank <= k)
 }
 
 fn slot_ok(g: Geometry, k: usize, r: Slot) -> bool
@@ -89,24 +53,11 @@ pub fn used_count(image: &[u8], g: Geometry) -> usize
     let mut k = 0;
     let mut i = 0;
     while i < n {
-        if crate::is_used(crate::read_slot(image, g, i)) {
-            k += 1;
-        }
+        let r = crate::read_slot(image, g, i);
+        k += (r.kind != 0) as usize;
         i += 1;
     }
     k
-}
-
-fn has_rank(n: usize, r: Slot) -> bool
-    ensures { λ y. ⌜ y ≡ hasRank n r ⌝ }
-{
-    if r.kind == 0 {
-        return false;
-    }
-    if r.rank != n {
-        return false;
-    }
-    true
 }
 
 // How many used slots have the rank.
@@ -118,9 +69,8 @@ fn rank_count(image: &[u8], g: Geometry, rank: usize) -> usize
     let mut k = 0;
     let mut i = 0;
     while i < n {
-        if has_rank(rank, crate::read_slot(image, g, i)) {
-            k += 1;
-        }
+        let r = crate::read_slot(image, g, i);
+        k += ((r.kind != 0) & (r.rank == rank)) as usize;
         i += 1;
     }
     k
@@ -132,14 +82,13 @@ fn each_ok(image: &[u8], g: Geometry, k: usize) -> bool
     ensures { λ r. ⌜ r ≡ eachOk (now (image .entry)) g k ⌝ }
 {
     let n = g.s;
+    let mut ok = true;
     let mut i = 0;
     while i < n {
-        if !slot_ok(g, k, crate::read_slot(image, g, i)) {
-            return false;
-        }
+        ok = ok & slot_ok(g, k, crate::read_slot(image, g, i));
         i += 1;
     }
-    true
+    ok
 }
 
 // Is each rank of 1 to k one slot's?
@@ -147,14 +96,13 @@ fn ranks_ok(image: &[u8], g: Geometry, k: usize) -> bool
     requires { ⌜ Framed (now image) g × (k ≤ 16) ⌝ }
     ensures { λ r. ⌜ r ≡ ranksOk (now (image .entry)) g k ⌝ }
 {
+    let mut ok = true;
     let mut n = 0;
     while n < k {
-        if rank_count(image, g, n + 1) != 1 {
-            return false;
-        }
+        ok = ok & (rank_count(image, g, n + 1) == 1);
         n += 1;
     }
-    true
+    ok
 }
 
 pub fn slots_ok(image: &[u8], g: Geometry) -> bool
@@ -162,8 +110,5 @@ pub fn slots_ok(image: &[u8], g: Geometry) -> bool
     ensures { λ r. ⌜ r ≡ slotsOk (now (image .entry)) g ⌝ }
 {
     let k = used_count(image, g);
-    if !each_ok(image, g, k) {
-        return false;
-    }
-    ranks_ok(image, g, k)
+    each_ok(image, g, k) & ranks_ok(image, g, k)
 }

@@ -4,9 +4,7 @@ mod find;
 mod judge;
 
 pub use change::drop_drive;
-pub use change::next_rank;
 pub use change::release;
-pub use change::retain;
 pub use change::write_record;
 pub use find::empty_slot;
 pub use find::newest;
@@ -18,7 +16,7 @@ use rules::Found;
 ghost use mathlib.Core.Path.{_≡_};
 ghost use Prim.Native.Nat.{_<_};
 ghost use Rattle.geometry.specs.Frame.{Framed};
-ghost use Rattle.slots.specs.Record.{slotOf, isUsed};
+ghost use Rattle.slots.specs.Record.{slotOf};
 ghost use Rattle.slots.specs.RecordLaws.{Small};
 
 // A slot's record. `last` is its last four bytes, which are zero.
@@ -46,16 +44,10 @@ pub fn read_slot(image: &[u8], g: Geometry, i: usize) -> Slot
     let block = Block(octets::be4(image, at + 8));
     Slot {
         rank: octets::be4(image, at),
-        kind: octets::be1(image, at + 4),
-        drive: octets::be1(image, at + 5),
+        kind: octets::byte(image, at + 4),
+        drive: octets::byte(image, at + 5),
         len: octets::be2(image, at + 6),
         block: block,
         last: octets::be4(image, at + 12),
     }
-}
-
-pub fn is_used(r: Slot) -> bool
-    ensures { λ y. ⌜ y ≡ isUsed r ⌝ }
-{
-    r.kind != 0
 }

@@ -1,38 +1,28 @@
--- `drives::addresses_ok` meets its contract. The loop's invariant: the addresses passed differ. Assumes nothing.
+-- `drives::addresses_ok` meets its contract. The loop's invariant: ok says whether the addresses passed differ. Assumes nothing.
 use Prim.Native.Nat.{_≤_, _-_}
-use mathlib.Core.Bool.{true}
-use mathlib.Core.Path.{_≡_, sym, _∙_}
+use mathlib.Core.Path.{_≡_, sym}
 use native.Mathlib.Omega.{arith}
 use borrow.Author.Needs.{needs}
-use borrow.Author.Tests.{not-true, not-false}
-use Rattle.rules.specs.All.{allBelow, all-none, all-more, all-stop, all-done}
+use Rattle.rules.specs.All.{allBelow, all-none, all-turn, all-end}
 use Rattle.drives.specs.Table.{newAddress, addressesOk}
 use Rattle.drives.proofs.addresses_ok.Statement.{statement}
 use Rattle.drives.proofs.addresses_ok.Tie as tie
 
 abbrev Inv-loop : tie.InvT-loop
-Inv-loop image g n i₀ i = (i ≤ n) × (allBelow i (newAddress image g) ≡ true)
+Inv-loop image g n ok₀ i₀ ok i = (i ≤ n) × (ok ≡ allBelow i (newAddress image g))
 
 abbrev μ-loop : tie.MeasureT-loop
-μ-loop image g n i₀ i = n - i
+μ-loop image g n ok₀ i₀ ok i = n - i
+
+loop-again : tie.Need-loop-again Inv-loop μ-loop
+loop-again c = (omega arith, all-turn _ _ _ _ (c .before .before .loop .inv .1) (c .new-address .ensures))
 
 returns : tie.Need-returns Inv-loop μ-loop
 unfolding addressesOk
-returns c =
-    let turn = c .before in
-    all-stop _ _ (turn .before .before .loop .i) (omega arith) (sym (turn .new-address .ensures) ∙ not-true _ (c .if1 .taken))
-
-loop-again : tie.Need-loop-again Inv-loop μ-loop
-loop-again c =
-    let turn = c .before in
-    (omega arith, all-more _ _ (turn .before .before .loop .inv .1) (sym (turn .new-address .ensures) ∙ not-false _ (c .if1 .left)))
-
-returns-2 : tie.Need-returns-2 Inv-loop μ-loop
-unfolding addressesOk
-returns-2 c = all-done _ _ _ (c .before .loop .inv .1) (omega arith) (omega arith)
+returns c = let the-loop = c .before .loop in all-end _ _ _ _ (the-loop .inv .1) (the-loop .inv .0) (c .loop-test .left)
 
 pub addresses-ok-spec : {M : Type 1} → statement M
 addresses-ok-spec =
     tie.close
-    (tie.spec Inv-loop μ-loop (λ c. (omega arith, all-none _)) (λ c κs. search needs)
-    returns (λ c. search needs) (λ c. search needs) loop-again returns-2)
+    (tie.spec Inv-loop μ-loop (λ c. (omega arith, sym (all-none _))) (λ c κs. search needs)
+    (λ c. search needs) (λ c. search needs) loop-again returns)

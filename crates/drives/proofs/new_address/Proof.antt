@@ -1,43 +1,35 @@
--- `drives::new_address` meets its contract. The loop's invariant: no drive passed has drive i's address. Assumes nothing.
-use Prim.Native.Nat.{_≤_, _-_}
-use mathlib.Core.Bool.{true, not}
-use mathlib.Core.Path.{_≡_, sym, ap, _∙_}
+-- `drives::new_address` meets its contract. The loop's invariant: ok says whether no drive passed has drive i's address.
+-- Assumes nothing.
+use Prim.Native.Nat.{ℕ, _≤_, _-_}
+use mathlib.Core.Bool.{not}
+use mathlib.Core.Path.{_≡_, sym, ap₂}
 use native.Mathlib.Omega.{arith}
 use lib.Dec.{eqb}
 use borrow.Author.Needs.{needs}
-use borrow.Author.Tests.{eq-eqb, ne-eqb}
-use Rattle.rules.specs.All.{allBelow, all-none, all-more, all-stop, all-done}
+use Rattle.rules.specs.All.{allBelow, all-none, all-turn, all-end}
 use Rattle.drives.specs.Table.{addressOf, newAddress}
 use Rattle.drives.proofs.new_address.Statement.{statement}
 use Rattle.drives.proofs.new_address.Tie as tie
 
 abbrev Inv-loop : tie.InvT-loop
-Inv-loop image g i own j₀ j = (j ≤ i) × (allBelow j (λ k. not (eqb (addressOf image g k) (addressOf image g i))) ≡ true)
+Inv-loop image g i own ok₀ j₀ ok j = (j ≤ i) × (ok ≡ allBelow j (λ k. not (eqb (addressOf image g k) (addressOf image g i))))
 
 abbrev μ-loop : tie.MeasureT-loop
-μ-loop image g i own j₀ j = i - j
-
-returns : tie.Need-returns Inv-loop μ-loop
-unfolding newAddress
-returns c =
-    let turn = c .before .before .before in
-    let at-loop = turn .before .before in
-    let own = at-loop .before .address .ensures .0 in
-    all-stop _ _ (at-loop .loop .j) (omega arith) (ap not (eq-eqb _ _ (sym (turn .address2 .ensures .0) ∙ c .if1 .taken ∙ own)))
+μ-loop image g i own ok₀ j₀ ok j = i - j
 
 loop-again : tie.Need-loop-again Inv-loop μ-loop
 loop-again c =
-    let turn = c .before .before .before in
+    let turn = c .before .before in
     let at-loop = turn .before .before in
-    let own = at-loop .before .address .ensures .0 in
-    (omega arith, all-more _ _ (at-loop .loop .inv .1) (ap not (ne-eqb _ _ (λ q. c .if1 .left (turn .address2 .ensures .0 ∙ q ∙ sym own)))))
+    let test = ap₂ (λ (a b : ℕ). not (eqb a b)) (turn .address2 .ensures .0) (at-loop .before .address .ensures .0) in
+    (omega arith, all-turn _ _ _ _ (at-loop .loop .inv .1) test)
 
-returns-2 : tie.Need-returns-2 Inv-loop μ-loop
+returns : tie.Need-returns Inv-loop μ-loop
 unfolding newAddress
-returns-2 c = all-done _ _ _ (c .before .loop .inv .1) (omega arith) (omega arith)
+returns c = let the-loop = c .before .loop in all-end _ _ _ _ (the-loop .inv .1) (the-loop .inv .0) (c .loop-test .left)
 
 pub new-address-spec : {M : Type 1} → statement M
 new-address-spec =
     tie.close
-    (tie.spec Inv-loop μ-loop (λ c κs. search needs) (λ c. (omega arith, all-none _)) (λ c κs. search needs)
-    returns (λ c. search needs) (λ c. search needs) loop-again returns-2)
+    (tie.spec Inv-loop μ-loop (λ c κs. search needs) (λ c. (omega arith, sym (all-none _))) (λ c κs. search needs)
+    (λ c. search needs) (λ c. search needs) loop-again returns)

@@ -1,4 +1,7 @@
 -- `act::rebuild::regenerate` meets its contract. Assumes nothing.
+use mathlib.Core.Path.{ap}
+use Prim.Native.Nat.{ℕ, _+_}
+use native.Mathlib.Omega.{arith}
 use borrow.Author.Needs.{needs}
 use Rattle.act.specs.Rebuild.{regenerate-ready, regenerated-by}
 use Rattle.act.proofs.rebuild.regenerate.Statement.{statement}
@@ -18,16 +21,17 @@ returns c =
     let args = c .before .before .before .before .before .before .before .before .before .before .before .before .before .before .args in
     let place = c .before .before .before .before .before .before .before .before .place in
     let slot-at = c .before .before .before .before .before .before .before .before .before .slot-at in
-    let next-rank = c .before .before .before .before .before .before .before .before .before .before .next-rank in
+    let used-count = c .before .before .before .before .before .before .before .before .before .before .used-count in
     let gather = c .before .before .before .before .before .before .gather in
     let enter = c .before .before .enter in
-    regenerated-by _ _ _ _ _ _ (pre .0) (pre .1 .0) (pre .1 .1) (pre .2) (args .i) _ _ (place .ensures .0) (slot-at .ensures .0) _ _ _ (next-rank .ensures) (gather .ensures) (enter .ensures)
+    regenerated-by _ _ _ _ _ _ (pre .0) (pre .1 .0) (pre .1 .1) (pre .2) (args .i) _ _ (place .ensures .0) (slot-at .ensures .0) _ _ _ (ap (λ (k : ℕ). k + 1) (used-count .ensures .0)) (gather .ensures) (enter .ensures)
 
 pub regenerate-spec : {M : Type 1} → statement M
 regenerate-spec =
     tie.close
     (tie.spec
     (λ c κs. search needs)
+    (λ c. omega (arith, c .used-count .ensures .1))
     (λ c κs. search needs)
     (λ c κs. search needs)
     (λ c. search needs)

@@ -1,4 +1,7 @@
 -- `act::xdwrite::retain` meets its contract. Assumes nothing.
+use mathlib.Core.Path.{ap}
+use Prim.Native.Nat.{ℕ, _+_}
+use native.Mathlib.Omega.{arith}
 use borrow.Author.Needs.{needs}
 use Rattle.act.specs.Xdwrite.{retain-passable, retained-by}
 use Rattle.act.proofs.xdwrite.retain.Statement.{statement}
@@ -18,16 +21,17 @@ returns c =
     let pre = c .before .before .before .before .before .before .before .before .before .before .before .before .before .before .pre in
     let place = c .before .before .before .before .before .before .before .before .place in
     let slot-at = c .before .before .before .before .before .before .before .before .before .slot-at in
-    let next-rank = c .before .before .before .before .before .before .before .before .before .before .next-rank in
+    let used-count = c .before .before .before .before .before .before .before .before .before .before .used-count in
     let pass-on = c .before .before .before .before .before .before .pass-on in
     let enter = c .before .before .enter in
-    retained-by _ _ _ (args .i) _ (args .ndisc) _ _ _ (pre .1 .1) (place .ensures .0) (slot-at .ensures .0) _ _ _ (next-rank .ensures) (pass-on .ensures) (enter .ensures)
+    retained-by _ _ _ (args .i) _ (args .ndisc) _ _ _ (pre .1 .1) (place .ensures .0) (slot-at .ensures .0) _ _ _ (ap (λ (k : ℕ). k + 1) (used-count .ensures .0)) (pass-on .ensures) (enter .ensures)
 
 pub retain-spec : {M : Type 1} → statement M
 retain-spec =
     tie.close
     (tie.spec
     (λ c κs. search needs)
+    (λ c. omega (arith, c .used-count .ensures .1))
     (λ c κs. search needs)
     (λ c κs. search needs)
     (λ c. search needs)

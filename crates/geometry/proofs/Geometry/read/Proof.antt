@@ -1,5 +1,7 @@
 -- `geometry::Geometry::read` meets its contract. Assumes nothing.
-use borrow.Author.Needs.{needs}
+use native.Mathlib.Nat.{le-trans}
+use lib.Dec.{lit≤}
+use Rattle.geometry.specs.Kept.{fields-geometry}
 use Rattle.geometry.proofs.Geometry.read.Statement.{statement}
 use Rattle.geometry.proofs.Geometry.read.Tie as tie
 
@@ -12,19 +14,19 @@ returns c =
     let be45 = c .before .before .before .be45 in
     let be46 = c .before .before .be46 in
     let be47 = c .before .be47 in
-    let be48 = c .be48 in
-    let e0 = be4 .ensures .0 in let e1 = be42 .ensures .0 in let e2 = be43 .ensures .0 in let e3 = be44 .ensures .0 in let e4 = be45 .ensures .0 in let e5 = be46 .ensures .0 in let e6 = be47 .ensures .0 in let e7 = be48 .ensures .0 in cc
+    fields-geometry (c .before .before .before .before .before .before .before .before .before .args .image .now) _ (be4 .ensures .0) (be42 .ensures .0) (be43 .ensures .0) (be44 .ensures .0)
+    (be45 .ensures .0) (be46 .ensures .0) (be47 .ensures .0) (c .be48 .ensures .0)
 
 pub read-spec : {M : Type 1} → statement M
 read-spec =
     tie.close
     (tie.spec
-    (λ c κs. search needs)
-    (λ c κs. search needs)
-    (λ c κs. search needs)
-    (λ c κs. search needs)
-    (λ c κs. search needs)
-    (λ c κs. search needs)
-    (λ c κs. search needs)
-    (λ c κs. search needs)
+    (λ c κs. le-trans (lit≤ tt) (c .before .pre))
+    (λ c κs. le-trans (lit≤ tt) (c .before .before .pre))
+    (λ c κs. le-trans (lit≤ tt) (c .before .before .before .pre))
+    (λ c κs. le-trans (lit≤ tt) (c .before .before .before .before .pre))
+    (λ c κs. le-trans (lit≤ tt) (c .before .before .before .before .before .pre))
+    (λ c κs. le-trans (lit≤ tt) (c .before .before .before .before .before .before .pre))
+    (λ c κs. le-trans (lit≤ tt) (c .before .before .before .before .before .before .before .pre))
+    (λ c κs. le-trans (lit≤ tt) (c .before .before .before .before .before .before .before .before .pre))
     returns)

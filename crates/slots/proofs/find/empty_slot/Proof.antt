@@ -1,10 +1,12 @@
--- `slots::find::empty_slot` meets its contract. Assumes nothing.
+-- `slots::find::empty_slot` meets its contract. The loop's invariant: the slots passed are used. Assumes nothing.
 use mathlib.Core.Path.{_≡_, sym, ap, _∙_}
-use mathlib.Core.Bool.{not}
+use mathlib.Core.Bool.{Bool, not}
 use Prim.Native.Nat.{_≤_, _-_}
 use borrow.Author.Needs.{needs}
+use borrow.Author.Tests.{eq-eqb, ne-eqb}
 use Rattle.rules.specs.declared.Found.the-variants.{Nothing}
 use Rattle.rules.specs.Least.{leastBelow, least-start, least-more, least-stop, least-done}
+use Rattle.slots.specs.declared.Slot.{Slot}
 use Rattle.slots.specs.Record.{slotOf, isUsed}
 use Rattle.slots.specs.Find.{emptySlot}
 use Rattle.slots.proofs.find.empty_slot.Statement.{statement}
@@ -16,41 +18,28 @@ Inv-loop image g n i₀ i = (i ≤ g .s) × (leastBelow i (λ k. not (isUsed (sl
 abbrev μ-loop : tie.MeasureT-loop
 μ-loop image g n i₀ i = g .s - i
 
-loop-holds : tie.Need-loop-holds Inv-loop μ-loop
-loop-holds c = (search needs, least-start _)
+abbrev unused : Slot → Bool
+unused r = not (isUsed r)
 
 returns : tie.Need-returns Inv-loop μ-loop
 unfolding emptySlot
 returns c =
     let the-loop = c .before .before .before .before .loop in
-    let is-used = c .before .is-used in
-    let read-slot = c .before .before .read-slot in
-    let if1 = c .if1 in
-    least-stop _ _ (the-loop .i) (search needs) (the-loop .inv .1) (ap not (sym (is-used .ensures ∙ ap isUsed (read-slot .ensures .0))) ∙ if1 .taken)
+    least-stop _ _ (the-loop .i) (search needs) (the-loop .inv .1)
+    (ap unused (sym (c .before .before .read-slot .ensures .0)) ∙ ap (λ (b : Bool). not (not b)) (eq-eqb _ _ (c .if1 .taken)))
 
 loop-again : tie.Need-loop-again Inv-loop μ-loop
-loop-again c =
-    let the-loop = c .before .before .before .before .loop in
-    let is-used = c .before .is-used in
-    let read-slot = c .before .before .read-slot in
-    let if1 = c .if1 in
-    (search needs, least-more _ _ (the-loop .inv .1) (ap not (sym (is-used .ensures ∙ ap isUsed (read-slot .ensures .0))) ∙ if1 .left))
+loop-again c = (
+  search needs,
+  least-more _ _ (c .before .before .before .before .loop .inv .1)
+      (ap unused (sym (c .before .before .read-slot .ensures .0)) ∙ ap (λ (b : Bool). not (not b)) (ne-eqb _ _ (c .if1 .left))),
+)
 
 returns-2 : tie.Need-returns-2 Inv-loop μ-loop
 unfolding emptySlot
-returns-2 c = least-done _ _ _ (c .before .loop .inv .1) (search needs) (search needs)
+returns-2 c = let the-loop = c .before .loop in least-done _ _ _ (the-loop .inv .1) (the-loop .inv .0) (c .loop-test .left)
 
 pub empty-slot-spec : {M : Type 1} → statement M
 empty-slot-spec =
     tie.close
-    (tie.spec
-    Inv-loop
-    μ-loop
-    loop-holds
-    (λ c κs. search needs)
-    (λ c κs. search needs)
-    returns
-    (λ c. search needs)
-    (λ c. search needs)
-    loop-again
-    returns-2)
+    (tie.spec Inv-loop μ-loop (λ c. (search needs, least-start _)) (λ c κs. search needs) returns (λ c. search needs) (λ c. search needs) loop-again returns-2)

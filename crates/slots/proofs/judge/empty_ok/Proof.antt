@@ -1,32 +1,7 @@
 -- `slots::judge::empty_ok` meets its contract. Assumes nothing.
-use Rattle.rules.specs.Tests.{tests}
-use Rattle.rules.specs.Every.{every}
+use Rattle.rules.specs.Every.{every-joined}
 use Rattle.slots.proofs.judge.empty_ok.Statement.{statement}
 use Rattle.slots.proofs.judge.empty_ok.Tie as tie
 
-returns : tie.Need-returns
-unfolding every
-returns c = search tests
-
-returns-2 : tie.Need-returns-2
-unfolding every
-returns-2 c = search tests
-
-returns-3 : tie.Need-returns-3
-unfolding every
-returns-3 c = search tests
-
-returns-4 : tie.Need-returns-4
-unfolding every
-returns-4 c = search tests
-
-returns-5 : tie.Need-returns-5
-unfolding every
-returns-5 c = search tests
-
-returns-6 : tie.Need-returns-6
-unfolding every
-returns-6 c = search tests
-
 pub empty-ok-spec : {M : Type 1} → statement M
-empty-ok-spec = tie.close (tie.spec returns returns-2 returns-3 returns-4 returns-5 returns-6)
+empty-ok-spec = tie.close (tie.spec (λ c. every-joined _ _))

@@ -1,11 +1,13 @@
--- `slots::judge::rank_count` meets its contract. Assumes nothing.
+-- `slots::judge::rank_count` meets its contract. The loop's invariant: k is the count of the slots passed. Assumes nothing.
 use mathlib.Core.Path.{_≡_, sym, ap, _∙_}
-use mathlib.Core.Logic.{inl, inr, ⊎-elim}
+use mathlib.Core.List.{[], _∷_}
 use Prim.Native.Nat.{_≤_, _-_}
 use native.Mathlib.Omega.{arith}
+use lib.Dec.{eqb}
 use borrow.Author.Needs.{needs}
+use Rattle.rules.specs.Every.{every-joined}
 use Rattle.rules.specs.Count.{countBelow, count-none, count-turn, count-done}
-use Rattle.slots.specs.Record.{slotOf}
+use Rattle.slots.specs.Record.{slotOf, isUsed}
 use Rattle.slots.specs.Slots.{hasRank}
 use Rattle.slots.proofs.judge.rank_count.Statement.{statement}
 use Rattle.slots.proofs.judge.rank_count.Tie as tie
@@ -16,30 +18,26 @@ Inv-loop image g rank n k₀ i₀ k i = (i ≤ g .s) × (k ≤ i) × (k ≡ coun
 abbrev μ-loop : tie.MeasureT-loop
 μ-loop image g rank n k₀ i₀ k i = g .s - i
 
-loop-holds : tie.Need-loop-holds Inv-loop μ-loop
-loop-holds c = (search needs, search needs, sym (count-none _))
+add-k : tie.Need-add-k Inv-loop μ-loop
+add-k c =
+    let the-loop = c .before .before .before .before .loop in
+    let args = c .before .before .before .before .before .before .args in
+    let r = c .before .before .read-slot in
+    let test = every-joined (isUsed (r .result)) (eqb (r .result .rank) (args .rank) ∷ []) ∙ ap (hasRank (args .rank)) (r .ensures .0) in
+    omega (arith, count-turn _ _ _ _ (the-loop .inv .2) test .0)
 
 loop-again : tie.Need-loop-again Inv-loop μ-loop
 loop-again c =
     let the-loop = c .before .before .before .before .loop in
     let args = c .before .before .before .before .before .before .args in
-    let test = c .before .has-rank .ensures ∙ ap (hasRank (args .rank)) (c .before .before .read-slot .ensures .0) in
-    let turn = count-turn _ _ _ _ _ (the-loop .inv .2) test (⊎-elim (λ w. inl (w .0 .taken, w .1)) (λ w. inr (w .0 .left, w .1)) (c .if1 .came)) in (omega arith, turn .0, turn .1)
+    let r = c .before .before .read-slot in
+    let test = every-joined (isUsed (r .result)) (eqb (r .result .rank) (args .rank) ∷ []) ∙ ap (hasRank (args .rank)) (r .ensures .0) in
+    let turn = count-turn _ _ _ _ (the-loop .inv .2) test in (omega arith, turn .0, turn .1)
 
 returns : tie.Need-returns Inv-loop μ-loop
-returns c = count-done _ _ _ _ (c .before .loop .inv .2) (search needs) (search needs)
+returns c = let the-loop = c .before .loop in count-done _ _ _ _ (the-loop .inv .2) (the-loop .inv .0) (c .loop-test .left)
 
 pub rank-count-spec : {M : Type 1} → statement M
 rank-count-spec =
     tie.close
-    (tie.spec
-    Inv-loop
-    μ-loop
-    loop-holds
-    (λ c κs. search needs)
-    (λ c κs. search needs)
-    (λ c. search needs)
-    (λ c. search needs)
-    (λ c. search needs)
-    loop-again
-    returns)
+    (tie.spec Inv-loop μ-loop (λ c. (search needs, search needs, sym (count-none _))) (λ c κs. search needs) (λ c. search needs) add-k (λ c. search needs) (λ c. search needs) loop-again returns)

@@ -1,54 +1,25 @@
--- `slots::judge::ranks_ok` meets its contract. Assumes nothing.
-use mathlib.Core.Bool.{true}
-use mathlib.Core.Path.{_≡_, sym, _∙_}
-use Prim.Native.Nat.{_≤_, _-_, _+_}
+-- `slots::judge::ranks_ok` meets its contract. The loop's invariant: ok says whether each rank passed is one slot's. Assumes nothing.
+use mathlib.Core.Path.{_≡_, sym, ap}
+use Prim.Native.Nat.{ℕ, _≤_, _-_, _+_}
 use lib.Dec.{eqb}
-use borrow.Author.Tests.{eq-eqb, ne-eqb}
 use borrow.Author.Needs.{needs}
-use Rattle.rules.specs.All.{allBelow, all-none, all-more, all-stop, all-done}
+use Rattle.rules.specs.All.{allBelow, all-none, all-turn, all-end}
 use Rattle.slots.specs.Slots.{rankCount, ranksOk}
 use Rattle.slots.proofs.judge.ranks_ok.Statement.{statement}
 use Rattle.slots.proofs.judge.ranks_ok.Tie as tie
 
 abbrev Inv-loop : tie.InvT-loop
-Inv-loop image g k n₀ n = (n ≤ k) × (allBelow n (λ j. eqb (rankCount image g (j + 1)) 1) ≡ true)
+Inv-loop image g k ok₀ n₀ ok n = (n ≤ k) × (ok ≡ allBelow n (λ j. eqb (rankCount image g (j + 1)) 1))
 
 abbrev μ-loop : tie.MeasureT-loop
-μ-loop image g k n₀ n = k - n
+μ-loop image g k ok₀ n₀ ok n = k - n
 
-loop-holds : tie.Need-loop-holds Inv-loop μ-loop
-loop-holds c = (search needs, all-none _)
+loop-again : tie.Need-loop-again Inv-loop μ-loop
+loop-again c = (search needs, all-turn _ _ _ _ (c .before .before .loop .inv .1) (ap (λ (m : ℕ). eqb m 1) (c .rank-count .ensures)))
 
 returns : tie.Need-returns Inv-loop μ-loop
 unfolding ranksOk
-returns c =
-    let the-loop = c .before .before .before .loop in
-    let if1 = c .if1 in
-    let rank-count = c .before .rank-count in
-    all-stop _ _ (the-loop .n) (search needs) (ne-eqb _ _ (λ q. if1 .taken (rank-count .ensures ∙ q)))
-
-loop-again : tie.Need-loop-again Inv-loop μ-loop
-loop-again c =
-    let the-loop = c .before .before .before .loop in
-    let rank-count = c .before .rank-count in
-    let if1 = c .if1 in
-    (search needs, all-more _ _ (the-loop .inv .1) (eq-eqb _ _ (sym (rank-count .ensures) ∙ if1 .left)))
-
-returns-2 : tie.Need-returns-2 Inv-loop μ-loop
-unfolding ranksOk
-returns-2 c = all-done _ _ _ (c .before .loop .inv .1) (search needs) (search needs)
+returns c = let the-loop = c .before .loop in all-end _ _ _ _ (the-loop .inv .1) (the-loop .inv .0) (c .loop-test .left)
 
 pub ranks-ok-spec : {M : Type 1} → statement M
-ranks-ok-spec =
-    tie.close
-    (tie.spec
-    Inv-loop
-    μ-loop
-    loop-holds
-    (λ c. search needs)
-    (λ c κs. search needs)
-    returns
-    (λ c. search needs)
-    (λ c. search needs)
-    loop-again
-    returns-2)
+ranks-ok-spec = tie.close (tie.spec Inv-loop μ-loop (λ c. (search needs, sym (all-none _))) (λ c. search needs) (λ c κs. search needs) (λ c. search needs) (λ c. search needs) loop-again returns)

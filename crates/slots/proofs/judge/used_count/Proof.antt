@@ -1,6 +1,5 @@
--- `slots::judge::used_count` meets its contract. Assumes nothing.
-use mathlib.Core.Path.{_≡_, sym, ap, _∙_}
-use mathlib.Core.Logic.{inl, inr, ⊎-elim}
+-- `slots::judge::used_count` meets its contract. The loop's invariant: k is the count of the slots passed. Assumes nothing.
+use mathlib.Core.Path.{_≡_, sym, ap}
 use Prim.Native.Nat.{_≤_, _-_}
 use native.Mathlib.Omega.{arith}
 use borrow.Author.Needs.{needs}
@@ -15,32 +14,25 @@ Inv-loop image g n k₀ i₀ k i = (i ≤ g .s) × (k ≤ i) × (k ≡ countBelo
 abbrev μ-loop : tie.MeasureT-loop
 μ-loop image g n k₀ i₀ k i = g .s - i
 
-loop-holds : tie.Need-loop-holds Inv-loop μ-loop
-loop-holds c = (search needs, search needs, sym (count-none _))
+add-k : tie.Need-add-k Inv-loop μ-loop
+add-k c =
+    let the-loop = c .before .before .before .loop in
+    let test = ap isUsed (c .before .read-slot .ensures .0) in
+    omega (arith, count-turn _ _ _ _ (the-loop .inv .2) test .0)
 
 loop-again : tie.Need-loop-again Inv-loop μ-loop
 loop-again c =
-    let the-loop = c .before .before .before .before .loop in
-    let test = c .before .is-used .ensures ∙ ap isUsed (c .before .before .read-slot .ensures .0) in
-    let turn = count-turn _ _ _ _ _ (the-loop .inv .2) test (⊎-elim (λ w. inl (w .0 .taken, w .1)) (λ w. inr (w .0 .left, w .1)) (c .if1 .came)) in (omega arith, turn .0, turn .1)
+    let the-loop = c .before .before .before .loop in
+    let test = ap isUsed (c .before .read-slot .ensures .0) in
+    let turn = count-turn _ _ _ _ (the-loop .inv .2) test in (omega arith, turn .0, turn .1)
 
 returns : tie.Need-returns Inv-loop μ-loop
 returns c =
     let the-loop = c .before .loop in
     let pre = c .before .before .before .pre in
-    (count-done _ _ _ _ (the-loop .inv .2) (search needs) (search needs), omega (arith, pre .placed .ranges .s-high))
+    (count-done _ _ _ _ (the-loop .inv .2) (the-loop .inv .0) (c .loop-test .left), omega (arith, pre .placed .ranges .s-high))
 
 pub used-count-spec : {M : Type 1} → statement M
 used-count-spec =
     tie.close
-    (tie.spec
-    Inv-loop
-    μ-loop
-    loop-holds
-    (λ c κs. search needs)
-    (λ c κs. search needs)
-    (λ c. search needs)
-    (λ c. search needs)
-    (λ c. search needs)
-    loop-again
-    returns)
+    (tie.spec Inv-loop μ-loop (λ c. (search needs, search needs, sym (count-none _))) (λ c κs. search needs) (λ c. search needs) add-k (λ c. search needs) (λ c. search needs) loop-again returns)

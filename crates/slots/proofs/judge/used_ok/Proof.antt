@@ -1,62 +1,11 @@
 -- `slots::judge::used_ok` meets its contract. Assumes nothing.
-use borrow.Author.Needs.{needs}
-use Rattle.rules.specs.Tests.{tests}
-use Rattle.rules.specs.Every.{every}
+use native.Mathlib.Omega.{arith}
+use Rattle.rules.specs.Every.{every-joined}
 use Rattle.slots.proofs.judge.used_ok.Statement.{statement}
 use Rattle.slots.proofs.judge.used_ok.Tie as tie
 
-returns : tie.Need-returns
-unfolding every
-returns c = search tests
-
-returns-2 : tie.Need-returns-2
-unfolding every
-returns-2 c = search tests
-
-returns-3 : tie.Need-returns-3
-unfolding every
-returns-3 c = search tests
-
-returns-4 : tie.Need-returns-4
-unfolding every
-returns-4 c = search tests
-
-returns-5 : tie.Need-returns-5
-unfolding every
-returns-5 c = search tests
-
-returns-6 : tie.Need-returns-6
-unfolding every
-returns-6 c = search tests
-
-returns-7 : tie.Need-returns-7
-unfolding every
-returns-7 c = search tests
-
-returns-8 : tie.Need-returns-8
-unfolding every
-returns-8 c = search tests
-
-returns-9 : tie.Need-returns-9
-unfolding every
-returns-9 c = search tests
-
-returns-10 : tie.Need-returns-10
-unfolding every
-returns-10 c = search tests
+add-result : tie.Need-add-result
+add-result c = let pre = c .before .before .before .before .before .pre in omega (arith, pre .block-small, pre .len-small)
 
 pub used-ok-spec : {M : Type 1} → statement M
-used-ok-spec =
-    tie.close
-    (tie.spec
-    returns
-    returns-2
-    returns-3
-    returns-4
-    returns-5
-    (λ c. search needs)
-    returns-6
-    returns-7
-    returns-8
-    returns-9
-    returns-10)
+used-ok-spec = tie.close (tie.spec add-result (λ c. every-joined _ _))
