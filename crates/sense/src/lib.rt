@@ -65,10 +65,11 @@ fn plain(first: u8, info: usize, key: u8, code: u8, qualifier: u8) -> [u8; 18]
     let mut s = [0u8; 18];
     s[0] = first;
     s[2] = key;
-    s[3] = (info / 16777216 % 256) as u8;
-    s[4] = (info / 65536 % 256) as u8;
-    s[5] = (info / 256 % 256) as u8;
-    s[6] = (info % 256) as u8;
+    let bytes = octets::to_be4(info);
+    s[3] = bytes.0;
+    s[4] = bytes.1;
+    s[5] = bytes.2;
+    s[6] = bytes.3;
     s[7] = 0x0A;
     s[12] = code;
     s[13] = qualifier;
@@ -81,11 +82,7 @@ fn placed(outer: [u8; 37], at: usize, inner: [u8; 18]) -> [u8; 37]
     ensures { λ r. ⌜ r ≡ put outer at inner ⌝ }
 {
     let mut s = outer;
-    let mut i = 0;
-    while i < 18 {
-        s[at + i] = inner[i];
-        i += 1;
-    }
+    octets::put_at(&mut s, at, &inner);
     s
 }
 
