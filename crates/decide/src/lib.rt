@@ -82,5 +82,5 @@ fn sized(
     if drives::is_failed(image, g, t) {
         return Decision::Stop(3, Seen::Drive(t), Answer::TargetFailed);
     }
-    each::flagged(image, g, t, Command::decode(op, cdb), sent, room)
+    each::each(image, g, t, Command::decode(op, cdb), sent, room)
 }
