@@ -2,8 +2,8 @@
 use borrow.Fn.Kinds.{Out}
 use Rattle.act.proofs as act
 
-abbrev pub enter : Out 1 act.keep.enter.Kinds.ps act.keep.enter.Kinds.r
-enter = act.keep.enter.Reads.Post
+abbrev pub entry-of : Out 0 act.keep.entry_of.Kinds.ps act.keep.entry_of.Kinds.r
+entry-of = act.keep.entry_of.Reads.Post
 
 abbrev pub read : Out 2 act.moves.read.Kinds.ps act.moves.read.Kinds.r
 read = act.moves.read.Reads.Post

@@ -52,5 +52,5 @@ pub fn regenerate(
         int: int,
     };
     gather::gather(image, g, sent, j);
-    crate::keep::enter(image, at, rank, 2, x);
+    slots::write_record(image, at, crate::keep::entry_of(rank, 2, x));
 }

@@ -54,7 +54,7 @@ pub fn retain(
         adds: false,
     };
     crate::pass::pass_on(image, sent, p);
-    crate::keep::enter(image, at, rank, 1, x);
+    slots::write_record(image, at, crate::keep::entry_of(rank, 1, x));
 }
 
 // XDWRITEREAD(10): the result goes to the room's front before the data, but with disable, goes to the blocks

@@ -2,5 +2,5 @@
 use borrow.Fn.Kinds.{Out}
 use Rattle.decide.proofs as decide
 
-abbrev pub flagged : Out 2 decide.each.flagged.Kinds.ps decide.each.flagged.Kinds.r
-flagged = decide.each.flagged.Reads.Post
+abbrev pub each : Out 2 decide.each.each.Kinds.ps decide.each.each.Kinds.r
+each = decide.each.each.Reads.Post

@@ -57,18 +57,15 @@ module _ (m : List ℕ) (g : Geometry) (t : ℕ) (k : Command) (s : List ℕ) (r
 -- ---- where the tests of a stage have passed
 
 module _ (m : List ℕ) (g : Geometry) (t : ℕ) (k : Command) (s : List ℕ) (r : ℕ) (o : Op) where
-  -- the code is told
-  pub told : (o′ : Op) → o ≡ o′ → eachOf o′ m g t k s r ≡ eachOf o m g t k s r
-  told o′ e = rw e
-
   module _ (bits : ℕ) (e : bits ≡ zeroBits o) where
     pub flags-bad : (bitAnd (k .flags) bits ≡ 0 → ⊥) → Stop 4 (Cdb 1) BadField ≡ flaggedOf o m g t k s r
     unfolding flaggedOf
     flags-bad h = rw (ne-eqb (bitAnd (k .flags) (zeroBits o)) 0 (λ q. h (ap (bitAnd (k .flags)) e ∙ q)))
 
-    pub flags-on : bitAnd (k .flags) bits ≡ 0 → eachOf o m g t k s r ≡ flaggedOf o m g t k s r
+    -- the code is told
+    pub flags-on : bitAnd (k .flags) bits ≡ 0 → (o′ : Op) → o ≡ o′ → eachOf o′ m g t k s r ≡ flaggedOf o m g t k s r
     unfolding flaggedOf
-    flags-on h = rw (eq-eqb (bitAnd (k .flags) (zeroBits o)) 0 (ap (bitAnd (k .flags)) (sym e) ∙ h))
+    flags-on h o′ q = rw (eq-eqb (bitAnd (k .flags) (zeroBits o)) 0 (ap (bitAnd (k .flags)) (sym e) ∙ h)) (ap (λ (x : Op). eachOf x m g t k s r) (sym q))
 
 module _ (m : List ℕ) (g : Geometry) (t : ℕ) (c s : List ℕ) (r : ℕ) where
   pub sized-failed : (o : Op) → (sizeOf o ≡ 0 → ⊥) → length c ≡ sizeOf o → failed m g t ≡ true

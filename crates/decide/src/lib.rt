@@ -42,8 +42,8 @@ pub fn decide(image: &[u8], target: Address, cdb: &[u8], sent: &[u8], room: usiz
     ensures { λ r. ⌜ r ≡ decideOf (now (image .entry)) (target .0) (now (cdb .entry)) (now (sent .entry)) room ⌝ }
 {
     match called(image, target) {
-        Reached::Refused(answer) => Decision::Stop(1, Seen::Dash, answer),
-        Reached::Drive(g, t) => opened(image, g, t, cdb, sent, room),
+        Reached::Refused(answer) => return Decision::Stop(1, Seen::Dash, answer),
+        Reached::Drive(g, t) => return opened(image, g, t, cdb, sent, room),
     }
 }
 
@@ -82,5 +82,5 @@ fn sized(
     if drives::is_failed(image, g, t) {
         return Decision::Stop(3, Seen::Drive(t), Answer::TargetFailed);
     }
-    each::flagged(image, g, t, Command::decode(op, cdb), sent, room)
+    each::each(image, g, t, Command::decode(op, cdb), sent, room)
 }

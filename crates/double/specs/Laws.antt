@@ -2,8 +2,8 @@
 use Prim.Native.Nat.{ℕ}
 use mathlib.Core.Bool.{Bool}
 use mathlib.Core.List.{List}
-use mathlib.Core.Path.{_≡_}
-use borrow.Author.Tests.{eq-eqb}
+use mathlib.Core.Path.{_≡_, _∙_}
+use borrow.Author.Tests.{eq-eqb, ne-eqb}
 use Rattle.rules.specs.declared.Found.{Found}
 use Rattle.rules.specs.declared.Found.the-variants.{At, Nothing}
 use Rattle.geometry.specs.declared.Geometry.{Geometry}
@@ -20,13 +20,15 @@ use Rattle.single.specs.Stages.{retainedOf}
 use Rattle.double.specs.Stages.{secondedOf, reachedOf, settledOf}
 
 module _ (f : Found) (m : List ℕ) (g : Geometry) (t : ℕ) (k : Command) where
-  pub reached-at : (j : ℕ) (down : Bool) → f ≡ At j → down ≡ failed m g j → secondedOf j down g t k ≡ reachedOf f m g t k
-  unfolding reachedOf
-  reached-at j down e h = rw (e, h)
+  -- Sec Ctl 00 or 10
+  module _ (sec : ℕ) (q : sec ≡ secOf k) (ne : sec ≡ 3 → ⊥) where
+    pub settled-at : (j : ℕ) (down : Bool) → f ≡ At j → down ≡ failed m g j → secondedOf j down g t k ≡ settledOf f m g t k
+    unfolding settledOf reachedOf
+    settled-at j down e h = rw (e, h, ne-eqb (secOf k) 3 (λ p. ne (q ∙ p)))
 
-  pub reached-none : f ≡ Nothing → Stop 10 (Cdb 8) NestedAddress ≡ reachedOf f m g t k
-  unfolding reachedOf
-  reached-none e = rw e
+    pub settled-none : f ≡ Nothing → Stop 10 (Cdb 8) NestedAddress ≡ settledOf f m g t k
+    unfolding settledOf reachedOf
+    settled-none e = rw (e, ne-eqb (secOf k) 3 (λ p. ne (q ∙ p)))
 
   -- Sec Ctl 11
   pub settled-slot : (x : Span) (mirror ndisc : ℕ) → secOf k ≡ 3 → x ≡ spanOf t k → mirror ≡ mirrorOf k → ndisc ≡ ndiscOf k

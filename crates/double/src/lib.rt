@@ -11,7 +11,7 @@ use sense::Answer;
 ghost use mathlib.Core.Path.{_≡_};
 ghost use Rattle.geometry.specs.Frame.{Framed};
 ghost use Rattle.command.specs.Command.{Fits};
-ghost use Rattle.double.specs.Stages.{OnShelf, xdwriteOf, limitedOf, settledOf, reachedOf, secondedOf};
+ghost use Rattle.double.specs.Stages.{OnShelf, xdwriteOf, limitedOf, settledOf, secondedOf};
 
 // The secondary is looked up but with Sec Ctl 11, where its fields are ignored.
 pub fn xdwrite(image: &[u8], g: Geometry, t: usize, k: Command, sent: &[u8]) -> Decision
@@ -74,27 +74,18 @@ fn limited(
     settled(there, image, g, t, k)
 }
 
-// Where the result goes: checks 9 and 10.
+// Where the result goes: check 9 of the slot, or check 10 of the secondary.
 fn settled(there: Found, image: &[u8], g: Geometry, t: usize, k: Command) -> Decision
     requires { ⌜ Framed (now image) g × Fits k × OnShelf g there ⌝ }
     ensures { λ r. ⌜ r ≡ settledOf there (now (image .entry)) g t k ⌝ }
 {
-    let sec = k.sec();
-    if sec == 3 {
+    if k.sec() == 3 {
         return single::retained(image, g, single::span(t, k), k.mirror(), k.ndisc());
     }
-    reached(there, image, g, t, k)
-}
-
-// Sec Ctl 00 or 10: check 10 of the secondary.
-fn reached(there: Found, image: &[u8], g: Geometry, t: usize, k: Command) -> Decision
-    requires { ⌜ Framed (now image) g × Fits k × OnShelf g there ⌝ }
-    ensures { λ r. ⌜ r ≡ reachedOf there (now (image .entry)) g t k ⌝ }
-{
-    match there {
-        Found::At(j) => seconded(j, drives::is_failed(image, g, j), g, t, k),
-        Found::Nothing => Decision::Stop(10, Seen::Cdb(8), Answer::NestedAddress),
-    }
+    let Found::At(j) = there else {
+        return Decision::Stop(10, Seen::Cdb(8), Answer::NestedAddress);
+    };
+    seconded(j, drives::is_failed(image, g, j), g, t, k)
 }
 
 // It is drive j.

@@ -4,8 +4,8 @@ use Rattle.act.proofs as act
 use Rattle.act.proofs.Contracts as inner
 use Rattle.once.specs.Only.{Only, _&_, _and_, equation, both, from}
 
-pub enter-once : Only inner.enter (λ _ _ s. now (s .0))
-enter-once = equation
+pub entry-of-once : Only inner.entry-of (λ _ r _. r)
+entry-of-once = equation
 
 pub carry-out-once : Only act.carry_out.Reads.Post (λ _ r s. now (s .0) & now (s .1 .1 .1 .1 .0) & r)
 carry-out-once = from (λ _ _ _ _ p. p .0 and p .1 and p .2)

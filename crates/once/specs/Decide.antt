@@ -3,8 +3,8 @@ use Rattle.decide.proofs as decide
 use Rattle.decide.proofs.Contracts as inner
 use Rattle.once.specs.Only.{Only, equation}
 
-pub flagged-once : Only inner.flagged (λ _ r _. r)
-flagged-once = equation
+pub each-once : Only inner.each (λ _ r _. r)
+each-once = equation
 
 pub called-once : Only decide.called.Reads.Post (λ _ r _. r)
 called-once = equation

@@ -1,9 +1,9 @@
 -- Where the tests of a stage have passed, and what a search has found, or nothing. Assumes nothing.
-use Prim.Native.Nat.{ℕ, _≤_}
+use Prim.Native.Nat.{ℕ, _+_, _≤_}
 use mathlib.Core.Bool.{Bool, false}
 use mathlib.Core.List.{List}
 use mathlib.Core.Path.{_≡_, _∙_}
-use borrow.Author.Tests.{ne-eqb, le-ltb}
+use borrow.Author.Tests.{eq-eqb, ne-eqb, le-ltb}
 use Rattle.rules.specs.declared.Found.{Found}
 use Rattle.rules.specs.declared.Found.the-variants.{At, Nothing}
 use Rattle.geometry.specs.declared.Geometry.{Geometry}
@@ -12,13 +12,11 @@ use Rattle.command.specs.declared.Command.{Command}
 use Rattle.command.specs.Command.{intOf, listSecOf, ownOf, resolvedOf, listBytes}
 use Rattle.meaning.specs.declared.Span.{Span}
 use Rattle.meaning.specs.declared.Act.the-variants.{Rebuild, Regenerate}
-use Rattle.meaning.specs.declared.Fault.{Fault}
-use Rattle.meaning.specs.declared.Seen.the-variants.{Dash, Entry}
+use Rattle.meaning.specs.declared.Seen.the-variants.{Dash, Cdb, Entry}
 use Rattle.meaning.specs.declared.Decision.the-variants.{Stop, Go}
 use Rattle.meaning.specs.Sources.{firstBad}
 use Rattle.meaning.specs.Checks.{spanOf}
-use Rattle.several.specs.declared.list.Head.{Head}
-use Rattle.several.specs.Stages.{faultOr, rebuiltOf, gatheredOf, regeneratedOf, placedOf, lengthOf, ownedOf, headOf, headedOf, listSizedOf, countedOf, fieldsOf, unbounded, rebuildOf}
+use Rattle.several.specs.Stages.{faultOr, rebuiltOf, gatheredOf, regeneratedOf, placedOf, lengthOf, ownedOf, headedOf, listSizedOf, countedOf, fieldsOf, unbounded, rebuildOf}
 
 module _ (m : List ℕ) (g : Geometry) (t : ℕ) (k : Command) (s : List ℕ) where
   -- ---- where the tests have passed
@@ -34,32 +32,25 @@ module _ (m : List ℕ) (g : Geometry) (t : ℕ) (k : Command) (s : List ℕ) wh
   fields-on keep long sec due e x y l d =
       rw (d, l, ne-eqb (listSecOf k) 1 (λ q. x (e ∙ q)), ne-eqb (listSecOf k) 3 (λ q. y (e ∙ q)))
 
-  pub listed-on : (keep : Bool) (h : Head) → h ≡ headOf s → (k .list ≡ 0 → ⊥) → 8 ≤ k .list → headedOf keep h m g t k s ≡ listSizedOf keep m g t k s
+  pub listed-on : (keep : Bool) → (k .list ≡ 0 → ⊥) → 8 ≤ k .list → headedOf keep m g t k s ≡ listSizedOf keep m g t k s
   unfolding listSizedOf
-  listed-on keep h e z l = rw (e, ne-eqb (k .list) 0 z, le-ltb (k .list) 8 l)
+  listed-on keep z l = rw (ne-eqb (k .list) 0 z, le-ltb (k .list) 8 l)
 
   module _ (n : ℕ) where
-    pub length-on : (keep : Bool) (own r : Command) → r ≡ resolvedOf own (g .b) → own ≡ ownOf k s → (k .count ≡ 0 → ⊥)
-        → placedOf keep n m g t r s ≡ lengthOf keep n m g t k s
-    unfolding lengthOf
-    length-on keep own r h e z = rw (h, e, ne-eqb (k .count) 0 z)
-
     -- ---- what a search has found
 
-    module _ (x : Span) (int : ℕ) (f : Fault) (h : x ≡ spanOf t k) (i : int ≡ intOf k) (e : f ≡ firstBad m g s (k .count) 0 n) where
-      pub rebuilt-by : faultOr f (Go (Rebuild x n int) Good) ≡ rebuiltOf n m g t k s
-      unfolding rebuiltOf
-      rebuilt-by = rw (h, i, e)
+    module _ (x : Span) (int : ℕ) (h : x ≡ spanOf t k) (q : int ≡ intOf k) where
+      pub placed-rebuild : (keep : Bool) → k .block .0 + k .count ≤ g .b → keep ≡ false
+          → faultOr (firstBad m g s (k .count) 0 n) (Go (Rebuild x n int) Good) ≡ placedOf keep n m g t k s
+      unfolding placedOf rebuiltOf
+      placed-rebuild keep l e = rw (le-ltb (g .b) (k .block .0 + k .count) l, e, h, q)
 
-      pub gathered-by : (slot : ℕ) → faultOr f (Go (Regenerate x n int slot) Good) ≡ gatheredOf n slot m g t k s
-      unfolding gatheredOf
-      gathered-by slot = rw (h, i, e)
+      pub regenerated-at : (f : Found) (i : ℕ) → f ≡ At i
+          → faultOr (firstBad m g s (k .count) 0 n) (Go (Regenerate x n int i) Good) ≡ regeneratedOf n f m g t k s
+      unfolding regeneratedOf gatheredOf
+      regenerated-at f i e = rw (e, h, q)
 
     module _ (f : Found) where
-      pub regenerated-at : (i : ℕ) → f ≡ At i → gatheredOf n i m g t k s ≡ regeneratedOf n f m g t k s
-      unfolding regeneratedOf
-      regenerated-at i e = rw e
-
       pub regenerated-none : f ≡ Nothing → Stop 9 Dash Busy ≡ regeneratedOf n f m g t k s
       unfolding regeneratedOf
       regenerated-none e = rw e
@@ -68,6 +59,11 @@ module _ (m : List ℕ) (g : Geometry) (t : ℕ) (k : Command) (s : List ℕ) wh
       unfolding ownedOf
       owned-at keep i e = rw e
 
-      pub owned-none : (keep : Bool) → f ≡ Nothing → lengthOf keep n m g t k s ≡ ownedOf keep n f m g t k s
-      unfolding ownedOf
-      owned-none keep e = rw e
+      module _ (keep : Bool) (e : f ≡ Nothing) where
+        pub owned-empty : k .count ≡ 0 → Stop 7 (Cdb 2) Good ≡ ownedOf keep n f m g t k s
+        unfolding ownedOf lengthOf
+        owned-empty z = rw (e, eq-eqb (k .count) 0 z)
+
+        pub owned-on : (own r : Command) → r ≡ resolvedOf own (g .b) → own ≡ ownOf k s → (k .count ≡ 0 → ⊥) → placedOf keep n m g t r s ≡ ownedOf keep n f m g t k s
+        unfolding ownedOf lengthOf
+        owned-on own r h q z = rw (h, q, e, ne-eqb (k .count) 0 z)

@@ -21,7 +21,6 @@ use Rattle.meaning.specs.declared.Decision.{Decision}
 use Rattle.meaning.specs.declared.Decision.the-variants.{Stop, Go}
 use Rattle.meaning.specs.Sources.{ownEntry, firstBad}
 use Rattle.meaning.specs.Checks.{isNothing, zeroSix, zeroControl, resolved, inRange, sourceRules, spanOf}
-use Rattle.several.specs.declared.list.Head.{Head}
 
 -- ---- checks 8 to 10
 
@@ -52,23 +51,20 @@ unfoldable pub ownedOf : Bool → ℕ → Found → List ℕ → Geometry → �
 ownedOf keep n f m g t k s = first Stop (rule 7 (Entry (index f) 0) (not (isNothing f)) BadList ∷ []) (lengthOf keep n m g t k s)
 
 -- "byte 0 number of sources, 1 entry type (01), 2-3 zero"
-abbrev pub headOf : List ℕ → Head
-headOf s = record { sources = getD s 0 0; kind = getD s 1 0; zeros = be 2 s 2 }
-
-unfoldable pub headedOf : Bool → Head → List ℕ → Geometry → ℕ → Command → List ℕ → Decision
-headedOf keep h m g t k s =
+unfoldable pub headedOf : Bool → List ℕ → Geometry → ℕ → Command → List ℕ → Decision
+headedOf keep m g t k s =
     first Stop
-    (rule 7 (Cdb 7) (not (eqb (k .list) (8 + 8 * h .sources))) BadListLength
-    ∷ rule 7 (InList 0) (eqb (h .sources) 0) BadList
-    ∷ rule 7 (InList 1) (not (eqb (h .kind) 1)) BadList
-    ∷ rule 7 (InList 2) (not (eqb (h .zeros) 0)) BadList
+    (rule 7 (Cdb 7) (not (eqb (k .list) (8 + 8 * getD s 0 0))) BadListLength
+    ∷ rule 7 (InList 0) (eqb (getD s 0 0) 0) BadList
+    ∷ rule 7 (InList 1) (not (eqb (getD s 1 0) 1)) BadList
+    ∷ rule 7 (InList 2) (not (eqb (be 2 s 2) 0)) BadList
     ∷ [])
-    (ownedOf keep (h .sources) (ownEntry m g s (h .sources) t) m g t k s)
+    (ownedOf keep (getD s 0 0) (ownEntry m g s (getD s 0 0) t) m g t k s)
 
 unfoldable pub listSizedOf : Bool → List ℕ → Geometry → ℕ → Command → List ℕ → Decision
 listSizedOf keep m g t k s =
     first Stop (rule 6 (Cdb 7) (eqb (k .list) 0) Good ∷ rule 7 (Cdb 7) (ltb (k .list) 8) BadListLength ∷ [])
-    (headedOf keep (headOf s) m g t k s)
+    (headedOf keep m g t k s)
 
 -- ---- checks 4 and 5
 

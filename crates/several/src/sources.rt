@@ -13,7 +13,10 @@ ghost use lib.ListN.{length};
 ghost use Rattle.geometry.specs.Frame.{Framed};
 ghost use Rattle.slots.specs.Find.{emptySlot};
 ghost use Rattle.command.specs.Command.{Fits};
-ghost use Rattle.several.specs.Stages.{faultOr, placedOf, rebuiltOf, regeneratedOf, gatheredOf};
+ghost use Rattle.sense.specs.declared.Answer.the-variants.{Good};
+ghost use Rattle.meaning.specs.declared.Decision.the-variants.{Go};
+ghost use Rattle.meaning.specs.Sources.{firstBad};
+ghost use Rattle.several.specs.Stages.{faultOr, placedOf, regeneratedOf};
 
 pub fn placed(
     keep: bool,
@@ -36,15 +39,8 @@ pub fn placed(
     if keep {
         return regenerated(n, image, g, t, k, sent);
     }
-    rebuilt(n, image, g, t, k, sent)
-}
-
-fn rebuilt(n: usize, image: &[u8], g: Geometry, t: usize, k: Command, sent: &[u8]) -> Decision
-    requires { ⌜ Framed (now image) g × Fits k × (8 + 8 * n ≤ length (now sent)) ⌝ }
-    ensures { λ r. ⌜ r ≡ rebuiltOf n (now (image .entry)) g t k (now (sent .entry)) ⌝ }
-{
-    let go = Decision::Go(Act::Rebuild(single::span(t, k), n, k.int()), Answer::Good);
-    faulty(scan::first_bad(image, g, sent, n, k.count), go)
+    let act = Act::Rebuild(single::span(t, k), n, k.int());
+    sourced(n, image, g, count, sent, act)
 }
 
 // The lowest-numbered empty slot takes the result.
@@ -52,39 +48,28 @@ fn regenerated(n: usize, image: &[u8], g: Geometry, t: usize, k: Command, sent: 
     requires { ⌜ Framed (now image) g × Fits k × (8 + 8 * n ≤ length (now sent)) ⌝ }
     ensures { λ r. ⌜ r ≡ regeneratedOf n (emptySlot (now (image .entry)) g) (now (image .entry)) g t k (now (sent .entry)) ⌝ }
 {
-    match slots::empty_slot(image, g) {
-        Found::At(i) => gathered(n, i, image, g, t, k, sent),
-        Found::Nothing => Decision::Stop(9, Seen::Dash, Answer::Busy),
-    }
+    let Found::At(i) = slots::empty_slot(image, g) else {
+        return Decision::Stop(9, Seen::Dash, Answer::Busy);
+    };
+    let act = Act::Regenerate(single::span(t, k), n, k.int(), i);
+    sourced(n, image, g, k.count, sent, act)
 }
 
-fn gathered(
-    n: usize,
-    slot: usize,
-    image: &[u8],
-    g: Geometry,
-    t: usize,
-    k: Command,
-    sent: &[u8],
-) -> Decision
-    requires { ⌜ Framed (now image) g × Fits k × (8 + 8 * n ≤ length (now sent)) ⌝ }
-    ensures { λ r. ⌜ r ≡ gatheredOf n slot (now (image .entry)) g t k (now (sent .entry)) ⌝ }
+// The first source with a fault decides; where none has one the command goes.
+fn sourced(n: usize, image: &[u8], g: Geometry, count: usize, sent: &[u8], act: Act) -> Decision
+    requires { ⌜ Framed (now image) g × (8 + 8 * n ≤ length (now sent)) × (count < 4294967296) ⌝ }
+    ensures { λ r. ⌜ r ≡ faultOr (firstBad (now (image .entry)) g (now (sent .entry)) count 0 n) (Go act Good) ⌝ }
 {
-    let go = Decision::Go(
-        Act::Regenerate(single::span(t, k), n, k.int(), slot),
-        Answer::Good,
-    );
-    faulty(scan::first_bad(image, g, sent, n, k.count), go)
-}
-
-// What a source's fault answers; where there is none, `go` stands.
-fn faulty(f: Fault, go: Decision) -> Decision
-    ensures { λ r. ⌜ r ≡ faultOr f go ⌝ }
-{
-    match f {
-        Fault::Clear => go,
-        Fault::Absent(i) => Decision::Stop(10, Seen::Entry(i, 0), Answer::NestedAddress),
-        Fault::Failed(i, k) => Decision::Stop(10, Seen::EntryDrive(i, k), Answer::NestedFailed),
-        Fault::Beyond(i) => Decision::Stop(10, Seen::Entry(i, 4), Answer::NestedRange),
+    match scan::first_bad(image, g, sent, n, count) {
+        Fault::Clear => return Decision::Go(act, Answer::Good),
+        Fault::Absent(i) => {
+            return Decision::Stop(10, Seen::Entry(i, 0), Answer::NestedAddress);
+        }
+        Fault::Failed(i, k) => {
+            return Decision::Stop(10, Seen::EntryDrive(i, k), Answer::NestedFailed);
+        }
+        Fault::Beyond(i) => {
+            return Decision::Stop(10, Seen::Entry(i, 4), Answer::NestedRange);
+        }
     }
 }

@@ -3,7 +3,7 @@
 use Prim.Native.Nat.{ℕ, _*_}
 use mathlib.Core.Bool.{not}
 use mathlib.Core.List.{List, [], _∷_, _++_}
-use lib.Dec.{eqb}
+use lib.Dec.{eqb, ltb}
 use lib.ListN.{length}
 use Rattle.rules.specs.declared.Found.{Found}
 use Rattle.rules.specs.Rule.{rule, first}
@@ -19,21 +19,49 @@ use Rattle.meaning.specs.declared.Act.the-variants.{Read, Write, XpWrite, XdRea
 use Rattle.meaning.specs.declared.Seen.the-variants.{Dash, Cdb}
 use Rattle.meaning.specs.declared.Decision.{Decision}
 use Rattle.meaning.specs.declared.Decision.the-variants.{Stop, Go}
-use Rattle.meaning.specs.Checks.{isNothing, zeroSix, zeroControl, aboveM, inRange, roomRule, spanOf}
+use Rattle.meaning.specs.Checks.{Check, isNothing, zeroSix, zeroControl, aboveM, inRange, roomRule, spanOf}
+use Rattle.single.specs.declared.Verdict.{Verdict}
+use Rattle.single.specs.declared.Verdict.the-variants.{Refuse, Pass}
+
+-- ---- what a run of checks says
+
+abbrev pub verdict : List Check → Verdict
+verdict rs = first Refuse rs Pass
+
+-- another run after it
+abbrev pub after : Verdict → Verdict → Verdict
+after (Refuse n w a) v = Refuse n w a
+after Pass v = v
+
+-- where none applies d stands
+abbrev pub stands : Verdict → Decision → Decision
+stands (Refuse n w a) d = Stop n w a
+stands Pass d = d
+
+unfoldable pub roomyVerdict : Verdict → Geometry → Command → ℕ → Verdict
+roomyVerdict v g k r = after v (verdict (roomRule g k r))
 
 -- ---- READ, WRITE, XPWRITE
 
 unfoldable pub roomyOf : Geometry → Command → ℕ → Decision → Decision
 roomyOf g k r d = first Stop (roomRule g k r) d
 
-unfoldable pub plainStage : ℕ → Geometry → Command → List ℕ → Decision → Decision
-plainStage due g k s d =
-    first Stop
-    (zeroControl 9 k
+abbrev pub plainRules : ℕ → Geometry → Command → List ℕ → List Check
+plainRules due g k s =
+    zeroControl 9 k
     ++ rule 5 Dash (not (eqb (length s) due)) WrongCount
     ∷ rule 6 (Cdb 7) (eqb (k .count) 0) Good
-    ∷ inRange (Cdb 2) g k)
-    d
+    ∷ inRange (Cdb 2) g k
+
+unfoldable pub plainVerdict : ℕ → Geometry → Command → List ℕ → Verdict
+plainVerdict due g k s = verdict (plainRules due g k s)
+
+-- no more than limit blocks
+unfoldable pub limitedVerdict : ℕ → ℕ → Geometry → Command → List ℕ → Verdict
+limitedVerdict limit due g k s = first Refuse (zeroSix k ++ rule 4 (Cdb 7) (ltb limit (k .count)) BadField ∷ []) (plainVerdict due g k s)
+
+unfoldable pub plainStage : ℕ → Geometry → Command → List ℕ → Decision → Decision
+plainStage due g k s d = first Stop (plainRules due g k s) d
 
 unfoldable pub readOf : Geometry → ℕ → Command → List ℕ → ℕ → Decision
 readOf g t k s r = first Stop (zeroSix k) (plainStage 0 g k s (roomyOf g k r (Go (Read (spanOf t k)) Good)))

@@ -1,4 +1,5 @@
 // XDREAD.
+use crate::Verdict;
 use command::Command;
 use geometry::Geometry;
 use meaning::Act;
@@ -7,10 +8,10 @@ use meaning::Seen;
 use rules::Found;
 use sense::Answer;
 ghost use mathlib.Core.Path.{_≡_};
-ghost use Rattle.geometry.specs.Frame.{InRange, Framed};
+ghost use Rattle.geometry.specs.Frame.{Framed};
 ghost use Rattle.slots.specs.Find.{newestOf};
 ghost use Rattle.command.specs.Command.{Fits};
-ghost use Rattle.single.specs.Stages.{xdreadOf, matchedOf, answeredOf};
+ghost use Rattle.single.specs.Stages.{xdreadOf, matchedOf};
 
 pub fn xdread(image: &[u8], g: Geometry, t: usize, k: Command, sent: &[u8], room: usize) -> Decision
     requires { ⌜ Framed (now image) g × Fits k ⌝ }
@@ -36,28 +37,13 @@ fn matched(image: &[u8], g: Geometry, t: usize, k: Command, room: usize) -> Deci
     ensures { λ r. ⌜ r ≡ matchedOf (newestOf (now (image .entry)) g t (k .block .0)) (now (image .entry)) g t k room ⌝ }
 {
     let block = k.block;
-    match slots::newest(image, g, t, block) {
-        Found::At(i) => {
-            let r = slots::read_slot(image, g, i);
-            answered(i, r.len, g, t, k, room)
-        }
-        Found::Nothing => Decision::Stop(8, Seen::Cdb(2), Answer::BadField),
-    }
-}
-
-// It is in slot i, and `len` blocks long.
-fn answered(i: usize, len: usize, g: Geometry, t: usize, k: Command, room: usize) -> Decision
-    requires { ⌜ InRange g × Fits k ⌝ }
-    ensures { λ r. ⌜ r ≡ answeredOf i len g t k room ⌝ }
-{
-    let count = k.count;
-    if len != count {
+    let Found::At(i) = slots::newest(image, g, t, block) else {
+        return Decision::Stop(8, Seen::Cdb(2), Answer::BadField);
+    };
+    let held = slots::read_slot(image, g, i);
+    if held.len != k.count {
         return Decision::Stop(8, Seen::Cdb(7), Answer::BadField);
     }
-    crate::roomy(
-        g,
-        k,
-        room,
-        Decision::Go(Act::XdRead(crate::span(t, k), i), Answer::Good),
-    )
+    let v = crate::roomy(Verdict::Pass, g, k, room);
+    crate::settle(v, Act::XdRead(crate::span(t, k), i))
 }

@@ -1,4 +1,5 @@
 // XDWRITE(10) and XDWRITEREAD(10), and the slot that any XDWRITE which retains asks for.
+use crate::Verdict;
 use command::Command;
 use geometry::Geometry;
 use meaning::Act;
@@ -17,8 +18,11 @@ pub fn xdwrite_ten(image: &[u8], g: Geometry, t: usize, k: Command, sent: &[u8])
     requires { ⌜ Framed (now image) g × Fits k ⌝ }
     ensures { λ r. ⌜ r ≡ xdwriteTenOf (now (image .entry)) g t k (now (sent .entry)) ⌝ }
 {
-    let go = retained(image, g, crate::span(t, k), 0, k.disable());
-    crate::plain::limited(g, k, sent, go)
+    let v = crate::plain::limited(g.m, k.count * g.l, g, k, sent);
+    if let Verdict::Refuse(n, seen, answer) = v {
+        return Decision::Stop(n, seen, answer);
+    }
+    retained(image, g, crate::span(t, k), 0, k.disable())
 }
 
 // It takes no slot: the room takes the result.
@@ -26,11 +30,9 @@ pub fn xdwriteread(g: Geometry, t: usize, k: Command, sent: &[u8], room: usize) 
     requires { ⌜ InRange g × Fits k ⌝ }
     ensures { λ r. ⌜ r ≡ xdwritereadOf g t k (now (sent .entry)) room ⌝ }
 {
-    let go = Decision::Go(
-        Act::XdWriteRead(crate::span(t, k), k.disable()),
-        Answer::Good,
-    );
-    crate::plain::limited(g, k, sent, crate::roomy(g, k, room, go))
+    let v = crate::plain::limited(g.m, k.count * g.l, g, k, sent);
+    let act = Act::XdWriteRead(crate::span(t, k), k.disable());
+    crate::settle(crate::roomy(v, g, k, room), act)
 }
 
 // Check 9: the lowest-numbered empty slot takes the result of the blocks of x; ndisc is NDisc or
@@ -39,8 +41,8 @@ pub fn retained(image: &[u8], g: Geometry, x: Span, mirror: usize, ndisc: usize)
     requires { ⌜ Framed (now image) g ⌝ }
     ensures { λ r. ⌜ r ≡ retainedOf (emptySlot (now (image .entry)) g) x mirror ndisc ⌝ }
 {
-    match slots::empty_slot(image, g) {
-        Found::At(i) => Decision::Go(Act::Retain(x, i, mirror, ndisc), Answer::Good),
-        Found::Nothing => Decision::Stop(9, Seen::Dash, Answer::Busy),
-    }
+    let Found::At(i) = slots::empty_slot(image, g) else {
+        return Decision::Stop(9, Seen::Dash, Answer::Busy);
+    };
+    Decision::Go(Act::Retain(x, i, mirror, ndisc), Answer::Good)
 }

@@ -41,7 +41,7 @@ returns-4 c =
     let if1 = c .before .before .before .before .before .if1 in
     let size-of = c .before .before .before .before .before .before .size-of in
     let if2 = c .before .before .before .before .if2 in
-    c .flagged .ensures
+    c .each .ensures
     ∙ sized-on _ _ _ _ _ _ _ _ (decode .ensures .0) (λ e. if1 .left (size-of .ensures ∙ e)) (if2 .left ∙ size-of .ensures) up
 
 pub sized-spec : {M : Type 1} → statement M

@@ -1,11 +1,7 @@
 -- `double::settled` meets its contract. Assumes nothing.
 use mathlib.Core.Path.{sym, _∙_}
-use borrow.Author.Tests.{ne-eqb}
 use borrow.Author.Needs.{needs}
-use Rattle.rules.specs.Tests.{tests}
-use Rattle.command.specs.Command.{secOf}
-use Rattle.double.specs.Stages.{settledOf}
-use Rattle.double.specs.Laws.{settled-slot}
+use Rattle.double.specs.Laws.{settled-slot, settled-at, settled-none}
 use Rattle.double.proofs.settled.Statement.{statement}
 use Rattle.double.proofs.settled.Tie as tie
 
@@ -16,16 +12,24 @@ returns c =
     let span = c .before .before .before .span in
     let mirror = c .before .before .mirror in
     let ndisc = c .before .ndisc in
-    c .retained .ensures
-    ∙ settled-slot _ _ _ _ _ _ _ _ (sym (sec .ensures .0) ∙ if1 .taken) (span .ensures) (mirror .ensures .0) (ndisc .ensures .0)
+    c .retained .ensures ∙ settled-slot _ _ _ _ _ _ _ _ (sym (sec .ensures .0) ∙ if1 .taken) (span .ensures) (mirror .ensures .0) (ndisc .ensures .0)
 
 returns-2 : tie.Need-returns-2
-unfolding settledOf
-returns-2 c =
-    let args = c .before .before .before .before .args in
-    let if1 = c .before .if1 in
-    let sec = c .before .before .sec in
-    search (tests, ne-eqb (secOf (args .k)) 3 (λ e. if1 .left (sec .ensures .0 ∙ e)))
+returns-2 c = settled-none _ _ _ _ _ _ (c .before .before .before .sec .ensures .0) (c .before .before .if1 .left) (c .enum-told .given .1)
+
+is-failed-requires : tie.Need-is-failed-requires
+is-failed-requires c κs =
+    let pre = c .before .before .before .before .before .before .pre in
+    let there = c .before .there in
+    (pre .0, pre .2 _ (there .given .1))
+
+returns-3 : tie.Need-returns-3
+returns-3 c =
+    let is-failed = c .before .is-failed in
+    let there = c .before .before .before .there in
+    let if1 = c .before .before .before .before .before .if1 in
+    let sec = c .before .before .before .before .before .before .sec in
+    c .seconded .ensures ∙ settled-at _ _ _ _ _ _ (sec .ensures .0) (if1 .left) _ _ (there .given .1) (is-failed .ensures)
 
 pub settled-spec : {M : Type 1} → statement M
 settled-spec =
@@ -37,5 +41,9 @@ settled-spec =
     (λ c κs. search needs)
     (λ c κs. search needs)
     returns
+    (λ c. search needs)
+    (λ c. search needs)
+    returns-2
+    is-failed-requires
     (λ c κs. search needs)
-    returns-2)
+    returns-3)

@@ -1,8 +1,9 @@
 -- `single::roomy` meets its contract. Assumes nothing.
 use native.Mathlib.Omega.{arith}
+use borrow.Author.Needs.{needs}
 use Rattle.rules.specs.Tests.{tests}
 use Rattle.command.specs.Length.{bytes-small}
-use Rattle.single.specs.Stages.{roomyOf}
+use Rattle.single.specs.Stages.{roomyVerdict}
 use Rattle.single.proofs.roomy.Statement.{statement}
 use Rattle.single.proofs.roomy.Tie as tie
 
@@ -13,12 +14,24 @@ mul-due c =
     omega (arith, bytes-small (args .k) (args .g) (pre .1) (pre .0))
 
 returns : tie.Need-returns
-unfolding roomyOf
-returns c = search tests
+unfolding roomyVerdict
+returns c = search (tests, c .enum-told .given .1)
 
 returns-2 : tie.Need-returns-2
-unfolding roomyOf
-returns-2 c = search tests
+unfolding roomyVerdict
+returns-2 c = search (tests, c .before .enum-told2 .given .1)
+
+returns-3 : tie.Need-returns-3
+unfolding roomyVerdict
+returns-3 c = search (tests, c .before .enum-told2 .given .1)
 
 pub roomy-spec : {M : Type 1} → statement M
-roomy-spec = tie.close (tie.spec mul-due returns returns-2)
+roomy-spec =
+    tie.close
+    (tie.spec
+    mul-due
+    (λ c. search needs)
+    returns
+    (λ c. search needs)
+    returns-2
+    returns-3)

@@ -17,14 +17,15 @@ gather-requires c κs =
 
 returns : tie.Need-returns
 returns c =
-    let pre = c .before .before .before .before .before .before .before .before .before .before .before .before .before .before .pre in
-    let args = c .before .before .before .before .before .before .before .before .before .before .before .before .before .before .args in
-    let place = c .before .before .before .before .before .before .before .before .place in
-    let slot-at = c .before .before .before .before .before .before .before .before .before .slot-at in
-    let used-count = c .before .before .before .before .before .before .before .before .before .before .used-count in
-    let gather = c .before .before .before .before .before .before .gather in
-    let enter = c .before .before .enter in
-    regenerated-by _ _ _ _ _ _ (pre .0) (pre .1 .0) (pre .1 .1) (pre .2) (args .i) _ _ (place .ensures .0) (slot-at .ensures .0) _ _ _ (ap (λ (k : ℕ). k + 1) (used-count .ensures .0)) (gather .ensures) (enter .ensures)
+    let pre = c .before .before .before .before .before .before .before .before .before .before .before .before .before .before .before .pre in
+    let args = c .before .before .before .before .before .before .before .before .before .before .before .before .before .before .before .args in
+    let place = c .before .before .before .before .before .before .before .before .before .place in
+    let slot-at = c .before .before .before .before .before .before .before .before .before .before .slot-at in
+    let used-count = c .before .before .before .before .before .before .before .before .before .before .before .used-count in
+    let gather = c .before .before .before .before .before .before .before .gather in
+    let entry-of = c .before .before .before .entry-of in
+    let write-record = c .before .before .write-record in
+    regenerated-by _ _ _ _ _ _ (pre .0) (pre .1 .0) (pre .1 .1) (pre .2) (args .i) _ _ (place .ensures .0) (slot-at .ensures .0) _ _ _ (ap (λ (k : ℕ). k + 1) (used-count .ensures .0)) (gather .ensures) (rw (entry-of .ensures) at (write-record .ensures))
 
 pub regenerate-spec : {M : Type 1} → statement M
 regenerate-spec =
@@ -36,6 +37,7 @@ regenerate-spec =
     (λ c κs. search needs)
     (λ c. search needs)
     gather-requires
+    (λ c κs. search needs)
     (λ c κs. search needs)
     (λ c. search needs)
     returns)

@@ -17,14 +17,15 @@ pass-on-requires c κs =
 
 returns : tie.Need-returns
 returns c =
-    let args = c .before .before .before .before .before .before .before .before .before .before .before .before .before .before .args in
-    let pre = c .before .before .before .before .before .before .before .before .before .before .before .before .before .before .pre in
-    let place = c .before .before .before .before .before .before .before .before .place in
-    let slot-at = c .before .before .before .before .before .before .before .before .before .slot-at in
-    let used-count = c .before .before .before .before .before .before .before .before .before .before .used-count in
-    let pass-on = c .before .before .before .before .before .before .pass-on in
-    let enter = c .before .before .enter in
-    retained-by _ _ _ (args .i) _ (args .ndisc) _ _ _ (pre .1 .1) (place .ensures .0) (slot-at .ensures .0) _ _ _ (ap (λ (k : ℕ). k + 1) (used-count .ensures .0)) (pass-on .ensures) (enter .ensures)
+    let args = c .before .before .before .before .before .before .before .before .before .before .before .before .before .before .before .args in
+    let pre = c .before .before .before .before .before .before .before .before .before .before .before .before .before .before .before .pre in
+    let place = c .before .before .before .before .before .before .before .before .before .place in
+    let slot-at = c .before .before .before .before .before .before .before .before .before .before .slot-at in
+    let used-count = c .before .before .before .before .before .before .before .before .before .before .before .used-count in
+    let pass-on = c .before .before .before .before .before .before .before .pass-on in
+    let entry-of = c .before .before .before .entry-of in
+    let write-record = c .before .before .write-record in
+    retained-by _ _ _ (args .i) _ (args .ndisc) _ _ _ (pre .1 .1) (place .ensures .0) (slot-at .ensures .0) _ _ _ (ap (λ (k : ℕ). k + 1) (used-count .ensures .0)) (pass-on .ensures) (rw (entry-of .ensures) at (write-record .ensures))
 
 pub retain-spec : {M : Type 1} → statement M
 retain-spec =
@@ -36,6 +37,7 @@ retain-spec =
     (λ c κs. search needs)
     (λ c. search needs)
     pass-on-requires
+    (λ c κs. search needs)
     (λ c κs. search needs)
     (λ c. search needs)
     returns)

@@ -6,7 +6,7 @@ use Rattle.command.proofs.Command.own.Tie as tie
 
 returns : tie.Need-returns
 unfolding ownOf
-returns c = (cc, search needs)
+returns c = (rw (c .be4 .ensures .0), search needs)
 
 pub own-spec : {M : Type 1} → statement M
 own-spec = tie.close (tie.spec (λ c κs. search needs) returns)

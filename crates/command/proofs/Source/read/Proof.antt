@@ -7,7 +7,7 @@ use Rattle.command.proofs.Source.read.Tie as tie
 
 returns : tie.Need-returns
 unfolding sourceOf
-returns c = (cc, omega arith, omega arith)
+returns c = (rw (c .be42 .ensures .0, c .before .be4 .ensures .0), omega arith, omega arith)
 
 pub read-spec : {M : Type 1} → statement M
 read-spec =

@@ -16,12 +16,7 @@ unfolding listSizedOf
 returns-2 c = search tests
 
 returns-3 : tie.Need-returns-3
-returns-3 c =
-    let headed = c .headed in
-    let read = c .before .read in
-    let if1 = c .before .before .before .if1 in
-    let if2 = c .before .before .if2 in
-    headed .ensures ∙ listed-on _ _ _ _ _ _ _ (read .ensures .0) (if1 .left) (if2 .left)
+returns-3 c = c .headed .ensures ∙ listed-on _ _ _ _ _ _ (c .before .before .if1 .left) (c .before .if2 .left)
 
 pub listed-spec : {M : Type 1} → statement M
-listed-spec = tie.close (tie.spec returns returns-2 (λ c κs. search needs) (λ c κs. search needs) returns-3)
+listed-spec = tie.close (tie.spec returns returns-2 (λ c κs. search needs) returns-3)

@@ -1,7 +1,7 @@
 -- `several::list::owned` meets its contract. Assumes nothing.
 use mathlib.Core.Path.{sym, _∙_}
 use borrow.Author.Needs.{needs}
-use Rattle.several.specs.Laws.{owned-at, owned-none}
+use Rattle.several.specs.Laws.{owned-at, owned-empty, owned-on}
 use Rattle.several.proofs.list.owned.Statement.{statement}
 use Rattle.several.proofs.list.owned.Tie as tie
 
@@ -10,12 +10,30 @@ returns c = owned-at _ _ _ _ _ _ _ _ _ (sym (c .before .before .before .own-entr
 
 returns-2 : tie.Need-returns-2
 returns-2 c =
-    let lengthy = c .lengthy in
     let own-entry = c .before .before .before .own-entry in
     let enum-told = c .before .enum-told in
-    lengthy .ensures ∙ owned-none _ _ _ _ _ _ _ _ (sym (own-entry .ensures) ∙ enum-told .given .1)
+    owned-empty _ _ _ _ _ _ _ _ (sym (own-entry .ensures) ∙ enum-told .given .1) (c .if1 .taken)
+
+returns-3 : tie.Need-returns-3
+returns-3 c =
+    let resolve = c .before .resolve in
+    let own = c .before .before .own in
+    let if1 = c .before .before .before .if1 in
+    let enum-told = c .before .before .before .before .enum-told in
+    let own-entry = c .before .before .before .before .before .before .own-entry in
+    c .placed .ensures
+    ∙ owned-on _ _ _ _ _ _ _ _ (sym (own-entry .ensures) ∙ enum-told .given .1) _ _ (resolve .ensures .0) (own .ensures .0) (if1 .left)
 
 pub owned-spec : {M : Type 1} → statement M
 owned-spec =
     tie.close
-    (tie.spec (λ c κs. search needs) (λ c. search needs) (λ c. search needs) (λ c κs. search needs) returns returns-2)
+    (tie.spec
+    (λ c κs. search needs)
+    (λ c. search needs)
+    returns
+    (λ c. search needs)
+    returns-2
+    (λ c κs. search needs)
+    (λ c κs. search needs)
+    (λ c κs. search needs)
+    returns-3)

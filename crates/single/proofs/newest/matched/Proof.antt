@@ -1,11 +1,13 @@
 -- `single::newest::matched` meets its contract. Assumes nothing.
-use mathlib.Core.Path.{sym, ap, _∙_}
+use mathlib.Core.Path.{sym, _∙_}
 use borrow.Author.Needs.{needs}
-use Rattle.slots.specs.declared.Slot.{Slot}
 use Rattle.results.specs.Best.{newest-at}
-use Rattle.single.specs.Laws.{matched-at, matched-none}
+use Rattle.single.specs.Laws.{matched-at, matched-other, matched-none}
 use Rattle.single.proofs.newest.matched.Statement.{statement}
 use Rattle.single.proofs.newest.matched.Tie as tie
+
+returns : tie.Need-returns
+returns c = matched-none _ _ _ _ _ _ (sym (c .before .before .newest .ensures) ∙ c .enum-told .given .1)
 
 read-slot-requires : tie.Need-read-slot-requires
 read-slot-requires c κs =
@@ -14,16 +16,22 @@ read-slot-requires c κs =
     let i = c .before .i in
     (pre .0, newest-at _ _ _ _ _ (sym (newest .ensures) ∙ i .given .1) .inside)
 
-returns : tie.Need-returns
-returns c =
-    let answered = c .answered in
-    let newest = c .before .before .before .before .before .newest in
-    let i = c .before .before .before .i in
-    let read-slot = c .before .read-slot in
-    answered .ensures ∙ matched-at _ _ _ _ _ _ _ _ (sym (newest .ensures) ∙ i .given .1) (ap (λ (x : Slot). x .len) (read-slot .ensures .0))
-
 returns-2 : tie.Need-returns-2
-returns-2 c = matched-none _ _ _ _ _ _ (sym (c .before .before .newest .ensures) ∙ c .enum-told .given .1)
+returns-2 c =
+    let read-slot = c .before .before .before .read-slot in
+    let i = c .before .before .before .before .before .i in
+    let newest = c .before .before .before .before .before .before .before .newest in
+    matched-other _ _ _ _ _ _ _ _ (sym (newest .ensures) ∙ i .given .1) (read-slot .ensures .0) (c .if1 .taken)
+
+returns-3 : tie.Need-returns-3
+returns-3 c =
+    let span = c .before .span in
+    let roomy = c .before .before .roomy in
+    let if1 = c .before .before .before .if1 in
+    let read-slot = c .before .before .before .before .before .before .read-slot in
+    let i = c .before .before .before .before .before .before .before .before .i in
+    let newest = c .before .before .before .before .before .before .before .before .before .before .newest in
+    c .settle .ensures ∙ matched-at _ _ _ _ _ _ _ _ (sym (newest .ensures) ∙ i .given .1) (read-slot .ensures .0) _ _ (if1 .left) (span .ensures) (roomy .ensures)
 
 pub matched-spec : {M : Type 1} → statement M
 matched-spec =
@@ -31,8 +39,11 @@ matched-spec =
     (tie.spec
     (λ c κs. search needs)
     (λ c. search needs)
-    read-slot-requires
-    (λ c κs. search needs)
     (λ c. search needs)
     returns
-    returns-2)
+    read-slot-requires
+    returns-2
+    (λ c κs. search needs)
+    (λ c κs. search needs)
+    (λ c κs. search needs)
+    returns-3)

@@ -1,29 +1,37 @@
 -- `single::plain::plain` meets its contract. Assumes nothing.
 use borrow.Author.Needs.{needs}
 use Rattle.rules.specs.Tests.{tests}
-use Rattle.single.specs.Stages.{plainStage}
+use Rattle.single.specs.Stages.{plainVerdict}
 use Rattle.single.proofs.plain.plain.Statement.{statement}
 use Rattle.single.proofs.plain.plain.Tie as tie
 
 returns : tie.Need-returns
-unfolding plainStage
+unfolding plainVerdict
 returns c = search tests
 
 returns-2 : tie.Need-returns-2
-unfolding plainStage
+unfolding plainVerdict
 returns-2 c = search tests
 
 returns-3 : tie.Need-returns-3
-unfolding plainStage
+unfolding plainVerdict
 returns-3 c = search tests
 
 returns-4 : tie.Need-returns-4
-unfolding plainStage
+unfolding plainVerdict
 returns-4 c = search tests
 
 returns-5 : tie.Need-returns-5
-unfolding plainStage
+unfolding plainVerdict
 returns-5 c = search tests
 
 pub plain-spec : {M : Type 1} → statement M
-plain-spec = tie.close (tie.spec returns returns-2 returns-3 (λ c. search needs) returns-4 returns-5)
+plain-spec =
+    tie.close
+    (tie.spec
+    returns
+    returns-2
+    returns-3
+    (λ c. search needs)
+    returns-4
+    returns-5)

@@ -6,10 +6,17 @@ use Rattle.single.proofs.xdwrite.retained.Statement.{statement}
 use Rattle.single.proofs.xdwrite.retained.Tie as tie
 
 returns : tie.Need-returns
-returns c = retains-at _ _ _ _ _ (sym (c .before .before .before .empty-slot .ensures) ∙ c .before .i .given .1)
+returns c = retains-busy _ _ _ _ (sym (c .before .before .empty-slot .ensures) ∙ c .enum-told .given .1)
 
 returns-2 : tie.Need-returns-2
-returns-2 c = retains-busy _ _ _ _ (sym (c .before .before .empty-slot .ensures) ∙ c .enum-told .given .1)
+returns-2 c = retains-at _ _ _ _ _ (sym (c .before .before .before .empty-slot .ensures) ∙ c .before .i .given .1)
 
 pub retained-spec : {M : Type 1} → statement M
-retained-spec = tie.close (tie.spec (λ c κs. search needs) (λ c. search needs) (λ c. search needs) returns returns-2)
+retained-spec =
+    tie.close
+    (tie.spec
+    (λ c κs. search needs)
+    (λ c. search needs)
+    (λ c. search needs)
+    returns
+    returns-2)

@@ -1,18 +1,34 @@
 -- `single::xdwrite::xdwriteread` meets its contract. Assumes nothing.
 use mathlib.Core.Path.{_∙_}
+use native.Mathlib.Omega.{arith}
 use borrow.Author.Needs.{needs}
+use Rattle.command.specs.Length.{bytes-small}
 use Rattle.single.specs.Laws.{xdwriteread-on}
 use Rattle.single.proofs.xdwrite.xdwriteread.Statement.{statement}
 use Rattle.single.proofs.xdwrite.xdwriteread.Tie as tie
 
+mul-limited : tie.Need-mul-limited
+mul-limited c =
+    let args = c .before .before .before .args in
+    let pre = c .before .before .before .pre in
+    omega (arith, bytes-small (args .k) (args .g) (pre .1) (pre .0))
+
 returns : tie.Need-returns
 returns c =
-    let span = c .before .before .before .span in
-    let disable = c .before .before .disable in
     let roomy = c .before .roomy in
-    c .limited .ensures ∙ xdwriteread-on _ _ _ _ (span .ensures) _ (disable .ensures .0) _ _ _ (roomy .ensures)
+    let disable = c .before .before .disable in
+    let span = c .before .before .before .span in
+    let limited = c .before .before .before .before .limited in
+    c .settle .ensures ∙ xdwriteread-on _ _ _ _ (span .ensures) _ _ (limited .ensures) _ (disable .ensures .0) _ _ (roomy .ensures)
 
 pub xdwriteread-spec : {M : Type 1} → statement M
 xdwriteread-spec =
     tie.close
-    (tie.spec (λ c κs. search needs) (λ c κs. search needs) (λ c κs. search needs) (λ c κs. search needs) returns)
+    (tie.spec
+    mul-limited
+    (λ c κs. search needs)
+    (λ c κs. search needs)
+    (λ c κs. search needs)
+    (λ c κs. search needs)
+    (λ c κs. search needs)
+    returns)
