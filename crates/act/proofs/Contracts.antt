@@ -1,4 +1,4 @@
--- What the contracts of this crate's inner functions say of the outcome: a private module is not seen from outside, so it is passed on here, for the laws of `once`. Assumes nothing.
+-- What the contracts of this crate's inner functions say of the outcome: a private module is not seen from outside, so it is passed on here, for the laws of `one_outcome`.
 use borrow.Fn.Kinds.{Out}
 use Rattle.act.proofs as act
 

@@ -1,4 +1,4 @@
--- From the act at hand to the case of it that the code is in. Assumes nothing.
+-- From the act at hand to the case of it that the code is in.
 use Prim.Native.Nat.{ℕ}
 use mathlib.Core.Path.{_≡_, refl, sym}
 use mathlib.Core.List.{List, []}

@@ -1,4 +1,4 @@
--- Bytes between the image and the caller's rooms. Assumes nothing.
+-- Bytes between the image and the caller's rooms.
 use Prim.Native.Nat.{ℕ}
 use mathlib.Core.Path.{_≡_, ap, ap₂, _∙_}
 use mathlib.Core.List.{List}

@@ -1,4 +1,4 @@
--- What XDWRITE's bytes become, whole and piece by piece. Assumes nothing.
+-- What XDWRITE's bytes become, whole and piece by piece.
 use Prim.Native.Nat.{ℕ, _+_, _≤_}
 use mathlib.Core.Bool.{cond}
 use mathlib.Core.List.{List, []}

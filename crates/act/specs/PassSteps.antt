@@ -1,4 +1,4 @@
--- How the code passes one piece on. Assumes nothing.
+-- How the code passes one piece on.
 use Prim.Native.Nat.{ℕ, _+_, _-_, _≤_}
 use native.Mathlib.Omega.{arith}
 use mathlib.Core.Path.{_≡_, sym, ap, ap₂, _∙_}

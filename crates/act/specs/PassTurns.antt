@@ -1,4 +1,4 @@
--- How XDWRITE's bytes go on from piece to piece. Assumes nothing.
+-- How XDWRITE's bytes go on from piece to piece.
 use Prim.Native.Nat.{ℕ, _+_, _≤_}
 use native.Mathlib.Omega.{arith}
 use mathlib.Core.Path.{_≡_, refl, sym, ap, ap₂, _∙_}

@@ -1,4 +1,4 @@
--- XDWRITE, XDWRITE(10) and XDWRITEREAD(10), from what the decision showed to what the command leaves. Assumes nothing.
+-- XDWRITE, XDWRITE(10) and XDWRITEREAD(10), from what the decision showed to what the command leaves.
 use Prim.Native.Nat.{ℕ, _+_, _*_, _≤_}
 use native.Mathlib.Omega.{arith}
 use mathlib.Core.Path.{_≡_, sym, ap, ap₂, _∙_}

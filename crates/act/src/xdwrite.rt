@@ -29,7 +29,7 @@ pub fn couple(image: &mut [u8], g: Geometry, x: Span, y: Span, mirror: usize, se
     crate::pass::pass_on(image, sent, p);
 }
 
-// Sec Ctl 11, or XDWRITE(10): the data goes to the blocks of x, but with ndisc (NDisc, or DISABLE WRITE),
+// Sec Ctl 11, or XDWRITE(10): the data goes to the blocks of x unless ndisc (NDisc, or DISABLE WRITE) is set,
 // and the result to slot i.
 pub fn retain(
     image: &mut [u8],
@@ -57,7 +57,7 @@ pub fn retain(
     slots::write_record(image, at, crate::keep::entry_of(rank, 1, x));
 }
 
-// XDWRITEREAD(10): the result goes to the room's front before the data, but with disable, goes to the blocks
+// XDWRITEREAD(10): the result goes to the room's front before the data, unless disable is set, goes to the blocks
 // of x.
 pub fn xdwriteread(
     image: &mut [u8],

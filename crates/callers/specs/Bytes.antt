@@ -1,4 +1,4 @@
--- The CDB of each command, from its code and the fields that it says, and that the step reads these fields from it. Assumes nothing.
+-- The CDB of each command, from its code and the fields that it says, and that the step reads these fields from it.
 use Prim.Native.Nat.{ℕ, _+_, _*_, _<_}
 use mathlib.Core.Bool.{false}
 use mathlib.Core.Path.{_≡_, refl, ap₂, _∙_}

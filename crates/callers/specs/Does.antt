@@ -1,11 +1,11 @@
--- What a caller's laws speak of: blocks of a drive, a drive that is called, and what a call that is GOOD leaves. Assumes nothing.
+-- What a caller's laws speak of: blocks of a drive, a drive that is called, and what a call that is GOOD leaves.
 use Prim.Native.Nat.{ℕ, _<_}
 use native.Mathlib.Omega.{arith}
 use mathlib.Core.Bool.{false}
 use mathlib.Core.Path.{_≡_}
 use mathlib.Core.List.{List}
 use Rattle.octets.specs.Octets.{Octets}
-use Rattle.rules.specs.declared.Found.the-variants.{At}
+use Rattle.folds.specs.declared.Found.the-variants.{At}
 use Rattle.geometry.specs.declared.Geometry.{Geometry}
 use Rattle.drives.specs.Table.{addressOf, driveOf, failed}
 use Rattle.drives.specs.Facts.{table-addresses, address-lt}

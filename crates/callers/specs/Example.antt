@@ -1,4 +1,4 @@
--- The bench shelf of 01: the laws' conditions can be met there, and its cases follow from them. Assumes nothing.
+-- The bench shelf of 01: the laws' conditions can be met there, and its cases follow from them.
 use Prim.Native.Nat.{ℕ, _+_, _≤_, _<_}
 use native.Mathlib.Omega.{arith}
 use mathlib.Core.Bool.{false}
@@ -12,11 +12,11 @@ use Rattle.octets.specs.Put.{put}
 use Rattle.octets.specs.Xor.{_⊻_}
 use Rattle.octets.specs.Number.{num, toBe}
 use Rattle.octets.specs.Operands.{xorAll}
-use Rattle.rules.specs.declared.Found.the-variants.{At}
-use Rattle.rules.specs.Every.{every}
-use Rattle.rules.specs.All.{allBelow}
-use Rattle.rules.specs.Count.{countBelow}
-use Rattle.rules.specs.Least.{leastBelow}
+use Rattle.folds.specs.declared.Found.the-variants.{At}
+use Rattle.folds.specs.Every.{every}
+use Rattle.folds.specs.All.{allBelow}
+use Rattle.folds.specs.Count.{countBelow}
+use Rattle.folds.specs.Least.{leastBelow}
 use Rattle.geometry.specs.Header.{rangesOk, offsetsOk, framedOk, slotAt, place}
 use Rattle.drives.specs.Table.{statesOk, newAddress, addressesOk, tableOk, driveOf, failed}
 use Rattle.slots.specs.Record.{slotOf, bytesOf}

@@ -1,4 +1,4 @@
--- A command whose checks pass is carried out, and what it then leaves. Assumes nothing.
+-- A command whose checks pass is carried out, and what it then leaves.
 use Prim.Native.Nat.{ℕ}
 use mathlib.Core.Bool.{Bool, not, _&&_}
 use mathlib.Core.Path.{_≡_, refl, sym, ap, ap₂, subst, _∙_}
@@ -8,7 +8,7 @@ use lib.ListN.{length}
 use borrow.Author.Tests.{eq-eqb}
 use Rattle.octets.specs.Put.{put, put-nil}
 use Rattle.rules.specs.Rule.{first, first-append, AllPass, none-decides}
-use Rattle.rules.specs.Least.{index}
+use Rattle.folds.specs.Least.{index}
 use Rattle.geometry.specs.declared.Geometry.{Geometry}
 use Rattle.geometry.specs.Header.{geometryOf}
 use Rattle.drives.specs.Table.{driveOf}

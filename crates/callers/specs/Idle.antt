@@ -1,4 +1,4 @@
--- "GOOD for zero length (READ, WRITE, XDWRITE, XPWRITE)", and "zero length is GOOD for 50h, 51h and 53h": nothing moves. Assumes nothing.
+-- "GOOD for zero length (READ, WRITE, XDWRITE, XPWRITE)", and "zero length is GOOD for 50h, 51h and 53h": nothing moves.
 use Prim.Native.Nat.{ℕ, _*_, _<_}
 use native.Mathlib.Omega.{arith}
 use mathlib.Core.Bool.{Bool, true, false, not, _&&_, and-false}

@@ -1,5 +1,5 @@
 -- What XPWRITE, XDWRITE(10) and XDWRITEREAD(10) have in common: data for at most M blocks passes the checks of its fields and count, and of its
--- range. Assumes nothing.
+-- range.
 use Prim.Native.Nat.{ℕ, _+_, _*_, _≤_}
 use native.Mathlib.Omega.{arith}
 use mathlib.Core.Bool.{not}

@@ -1,4 +1,4 @@
--- What REBUILD and REGENERATE have in common: the checks of byte 1, of the list and of its sources pass. Assumes nothing.
+-- What REBUILD and REGENERATE have in common: the checks of byte 1, of the list and of its sources pass.
 use Prim.Native.Nat.{ℕ, _+_, _*_, _/_, _%_, _≤_, _<_}
 use native.Mathlib.Omega.{arith}
 use mathlib.Core.Bool.{Bool, false, not, cond}
@@ -9,8 +9,8 @@ use lib.Bits.{bitAnd}
 use lib.Dec.{ltb, eqb, lit≤}
 use lib.ListN.{length, getD}
 use borrow.Author.Tests.{le-ltb, lt-leb, eq-eqb, ne-eqb}
-use Rattle.rules.specs.declared.Found.{Found}
-use Rattle.rules.specs.Each.{each-append}
+use Rattle.folds.specs.declared.Found.{Found}
+use Rattle.folds.specs.Each.{each-append}
 use Rattle.rules.specs.Rule.{rule, applies, AllPass}
 use Rattle.geometry.specs.declared.Geometry.{Geometry}
 use Rattle.sense.specs.declared.Answer.the-variants.{BadField, WrongCount}

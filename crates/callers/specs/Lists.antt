@@ -1,4 +1,4 @@
--- The parameter list of REBUILD and REGENERATE as bytes, and what the step reads from them. Assumes nothing.
+-- The parameter list of REBUILD and REGENERATE as bytes, and what the step reads from them.
 use Prim.Native.Nat.{ℕ, zero, suc, _+_, _*_, _<_}
 use native.Mathlib.Nat.{not-suc-le-zero, mul-suc}
 use native.Mathlib.Omega.{arith}

@@ -1,5 +1,5 @@
 -- A command leaves the drives as they were, so that the next one finds its target; as an example, what was written is read.
--- Assumes nothing.
+--
 use Prim.Native.Nat.{ℕ, _*_, _<_}
 use native.Mathlib.Omega.{arith}
 use mathlib.Core.Path.{_≡_, refl, sym, ap, subst, _∙_}
@@ -18,8 +18,8 @@ use Rattle.meaning.specs.declared.Decision.{Decision}
 use Rattle.meaning.specs.declared.Decision.the-variants.{Stop, Go}
 use Rattle.meaning.specs.Step.{decided, imageAfter, stepImage}
 use Rattle.meaning.specs.Allowed.{Blocks, Filled, Roomy}
-use Rattle.demands.specs.Beside.{Beside, front-beside}
-use Rattle.demands.specs.Step.{step-shelf, step-beside}
+use Rattle.demands_one_two.specs.Beside.{Beside, front-beside}
+use Rattle.demands_one_two.specs.Step.{step-shelf, step-beside}
 use Rattle.callers.specs.Bytes.{readCdb, writeCdb}
 use Rattle.callers.specs.Does.{blocks, Does, Target}
 use Rattle.callers.specs.Reads.{read-does}

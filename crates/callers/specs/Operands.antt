@@ -1,4 +1,4 @@
--- What REBUILD and REGENERATE gather by a list that was written from its sources, and both with such a list. Assumes nothing.
+-- What REBUILD and REGENERATE gather by a list that was written from its sources, and both with such a list.
 use Prim.Native.Nat.{ℕ, suc, _+_, _*_, _≤_, _<_}
 use native.Mathlib.Nat.{add-zero}
 use native.Mathlib.Omega.{arith}
@@ -12,7 +12,7 @@ use Rattle.octets.specs.Part.{part}
 use Rattle.octets.specs.Put.{put}
 use Rattle.octets.specs.Xor.{_⊻_, xor-regroups, xor-itself}
 use Rattle.octets.specs.Operands.{xorAll}
-use Rattle.rules.specs.Each.{EachIs}
+use Rattle.folds.specs.Each.{EachIs}
 use Rattle.geometry.specs.declared.Geometry.{Geometry}
 use Rattle.geometry.specs.Header.{place, blocksAt}
 use Rattle.image.specs.Shelf.{shelf-frame}

@@ -1,4 +1,4 @@
--- XDWRITE(10) and XDWRITEREAD(10), for a caller. Assumes nothing.
+-- XDWRITE(10) and XDWRITEREAD(10), for a caller.
 use Prim.Native.Nat.{ℕ, _*_, _/_, _%_}
 use mathlib.Core.Path.{_≡_, refl, ap, ap₂, subst}
 use mathlib.Core.List.{List, _++_}
@@ -7,8 +7,8 @@ use lib.ListN.{length}
 use borrow.Author.Tests.{le-ltb}
 use Rattle.octets.specs.Put.{put}
 use Rattle.octets.specs.Xor.{_⊻_}
-use Rattle.rules.specs.declared.Found.{Found}
-use Rattle.rules.specs.Least.{index}
+use Rattle.folds.specs.declared.Found.{Found}
+use Rattle.folds.specs.Least.{index}
 use Rattle.geometry.specs.declared.Geometry.{Geometry}
 use Rattle.geometry.specs.Header.{place, blocksAt}
 use Rattle.geometry.specs.Frame.{Framed}

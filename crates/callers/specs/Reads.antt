@@ -1,4 +1,4 @@
--- READ and XDREAD, for a caller. Assumes nothing.
+-- READ and XDREAD, for a caller.
 use Prim.Native.Nat.{ℕ, _+_, _*_, _<_}
 use native.Mathlib.Omega.{arith}
 use mathlib.Core.Bool.{not}
@@ -10,9 +10,9 @@ use lib.ListN.{length}
 use borrow.Author.Tests.{le-ltb, eq-eqb, eqb-true, ne-eqb}
 use Rattle.octets.specs.Part.{part, length-part}
 use Rattle.octets.specs.Put.{put}
-use Rattle.rules.specs.declared.Found.{Found}
-use Rattle.rules.specs.Every.{holds}
-use Rattle.rules.specs.Least.{index}
+use Rattle.folds.specs.declared.Found.{Found}
+use Rattle.folds.specs.Every.{holds}
+use Rattle.folds.specs.Least.{index}
 use Rattle.geometry.specs.declared.Geometry.{Geometry}
 use Rattle.geometry.specs.Header.{dataAt, blocksAt}
 use Rattle.geometry.specs.Frame.{Framed}

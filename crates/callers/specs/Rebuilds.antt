@@ -1,4 +1,4 @@
--- REBUILD and REGENERATE, for a caller. Assumes nothing.
+-- REBUILD and REGENERATE, for a caller.
 use Prim.Native.Nat.{ℕ, _+_, _*_, _/_, _%_, _≤_, _<_}
 use native.Mathlib.Omega.{arith}
 use mathlib.Core.Bool.{Bool, false, not, _&&_, and-false}
@@ -9,8 +9,8 @@ use lib.Dec.{ltb, eqb}
 use borrow.Author.Tests.{le-ltb, ne-eqb, eqb-false}
 use Rattle.octets.specs.Put.{put}
 use Rattle.octets.specs.Xor.{_⊻_}
-use Rattle.rules.specs.declared.Found.{Found}
-use Rattle.rules.specs.Least.{index}
+use Rattle.folds.specs.declared.Found.{Found}
+use Rattle.folds.specs.Least.{index}
 use Rattle.geometry.specs.declared.Geometry.{Geometry}
 use Rattle.geometry.specs.Header.{place, blocksAt}
 use Rattle.slots.specs.Find.{emptySlot}

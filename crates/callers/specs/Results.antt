@@ -1,5 +1,5 @@
 -- For a caller that knows the retained results by age and not their slots: either XDWRITE and REGENERATE retain one more where one more fits, and
--- XDREAD hands out the newest at its block. Assumes nothing.
+-- XDREAD hands out the newest at its block.
 use Prim.Native.Nat.{ℕ, _*_, _<_}
 use native.Mathlib.Omega.{arith}
 use mathlib.Core.Path.{_≡_, refl, sym, ap, subst, _∙_}
@@ -9,8 +9,8 @@ use lib.ListN.{length}
 use Rattle.octets.specs.Part.{part}
 use Rattle.octets.specs.Put.{put}
 use Rattle.octets.specs.Xor.{_⊻_}
-use Rattle.rules.specs.declared.Found.{Found}
-use Rattle.rules.specs.declared.Found.the-variants.{At, Nothing}
+use Rattle.folds.specs.declared.Found.{Found}
+use Rattle.folds.specs.declared.Found.the-variants.{At, Nothing}
 use Rattle.geometry.specs.declared.Geometry.{Geometry}
 use Rattle.geometry.specs.Header.{dataAt, blocksAt}
 use Rattle.slots.specs.Find.{emptySlot, newestOf}
@@ -26,9 +26,9 @@ use Rattle.meaning.specs.declared.Span.{Span}
 use Rattle.meaning.specs.declared.Act.the-variants.{Retain, Regenerate}
 use Rattle.meaning.specs.Acts.{stored, resultOf, slotStores, dataStores, gathered}
 use Rattle.meaning.specs.Allowed.{Blocks, Filled, Roomy, Limited, Held, Free, empty-free, Sourced}
-use Rattle.licence.specs.Each.{held-at}
-use Rattle.demands.specs.Leaves.{resultIn}
-use Rattle.demands.specs.Retained.{results-after}
+use Rattle.grants.specs.Each.{held-at}
+use Rattle.demands_one_two.specs.Leaves.{resultIn}
+use Rattle.demands_one_two.specs.Retained.{results-after}
 use Rattle.callers.specs.Bytes.{xdreadCdb, xdwriteTenCdb, xdwriteCdb, regenerateCdb}
 use Rattle.callers.specs.Lists.{Headed}
 use Rattle.callers.specs.Does.{blocks, Does, Target}

@@ -1,4 +1,4 @@
--- Source entries that name blocks of other present drives pass their checks. Assumes nothing.
+-- Source entries that name blocks of other present drives pass their checks.
 use Prim.Native.Nat.{ℕ, zero, suc, _+_, _*_, _≤_, _<_}
 use native.Mathlib.Omega.{arith}
 use mathlib.Core.Bool.{false, cond}
@@ -8,9 +8,9 @@ use lib.Dec.{eqb}
 use lib.ListN.{length, getD}
 use borrow.Author.Tests.{le-ltb, ne-eqb}
 use Rattle.octets.specs.Octets.{Octets}
-use Rattle.rules.specs.declared.Found.the-variants.{Nothing}
-use Rattle.rules.specs.Each.{EachIs, each-at}
-use Rattle.rules.specs.Least.{least-none}
+use Rattle.folds.specs.declared.Found.the-variants.{Nothing}
+use Rattle.folds.specs.Each.{EachIs, each-at}
+use Rattle.folds.specs.Least.{least-none}
 use Rattle.geometry.specs.declared.Geometry.{Geometry}
 use Rattle.geometry.specs.Places.{Range}
 use Rattle.drives.specs.Table.{addressOf, failed}

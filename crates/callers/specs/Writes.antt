@@ -1,4 +1,4 @@
--- WRITE and XPWRITE, for a caller. Assumes nothing.
+-- WRITE and XPWRITE, for a caller.
 use Prim.Native.Nat.{ℕ, _+_, _*_, _<_}
 use native.Mathlib.Omega.{arith}
 use mathlib.Core.Bool.{not}

@@ -1,4 +1,4 @@
--- XDWRITE, coupled with a secondary and retained, for a caller. Assumes nothing.
+-- XDWRITE, coupled with a secondary and retained, for a caller.
 use Prim.Native.Nat.{ℕ, _+_, _*_, _/_, _%_, _≤_, _<_}
 use native.Mathlib.Omega.{arith}
 use mathlib.Core.Bool.{Bool, true, false, not, _&&_, cond}
@@ -11,9 +11,9 @@ use lib.ListN.{length}
 use borrow.Author.Tests.{le-ltb, eq-eqb, ne-eqb}
 use Rattle.octets.specs.Put.{put}
 use Rattle.octets.specs.Xor.{_⊻_}
-use Rattle.rules.specs.declared.Found.{Found}
-use Rattle.rules.specs.declared.Found.the-variants.{At}
-use Rattle.rules.specs.Least.{index}
+use Rattle.folds.specs.declared.Found.{Found}
+use Rattle.folds.specs.declared.Found.the-variants.{At}
+use Rattle.folds.specs.Least.{index}
 use Rattle.geometry.specs.declared.Geometry.{Geometry}
 use Rattle.geometry.specs.Header.{place, blocksAt}
 use Rattle.geometry.specs.Frame.{Framed}

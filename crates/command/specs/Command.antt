@@ -1,4 +1,4 @@
--- 01, "Commands", and 02, A1: what the bytes of a CDB and of a parameter list say. Nothing is refused here. Assumes nothing.
+-- 01, "Commands", and 02, A1: what the bytes of a CDB and of a parameter list say. Nothing is refused here.
 use Prim.Native.Nat.{ℕ, _+_, _-_, _*_, _/_, _%_, _<_}
 use mathlib.Core.List.{List, [], _∷_}
 use mathlib.Core.Bool.{cond}

@@ -1,10 +1,10 @@
--- The masks of byte 1 leave just the bits that 01 and A1 name. Assumes nothing.
+-- The masks of byte 1 leave just the bits that 01 and A1 name.
 use Prim.Native.Nat.{ℕ, _+_, _*_, _/_, _%_, _<_}
 use mathlib.Core.Bool.{Bool, true, false, Bool·beq}
 use mathlib.Core.Path.{_≡_, refl, sym}
 use lib.Dec.{eqb}
 use lib.Bits.{bitAnd}
-use Rattle.rules.specs.All.{allBelow, all-at}
+use Rattle.folds.specs.All.{allBelow, all-at}
 use Rattle.command.specs.declared.Op.{Op}
 use Rattle.command.specs.declared.Op.the-variants.{XdWrite, XpWrite, XdRead, Rebuild, Regenerate, Read, Write, XdWriteTen, XdWriteRead, Unknown}
 use Rattle.command.specs.Command.{zeroBits}

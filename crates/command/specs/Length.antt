@@ -1,4 +1,4 @@
--- What the list's own block and the resolved length do to a command, and how large a length is. Assumes nothing.
+-- What the list's own block and the resolved length do to a command, and how large a length is.
 use Prim.Native.Nat.{ℕ, _+_, _-_, _*_, _≤_, _<_}
 use native.Mathlib.Nat.{mul-le-mul}
 use native.Mathlib.Omega.{arith}

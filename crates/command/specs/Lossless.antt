@@ -1,4 +1,4 @@
--- Nothing is lost: a CDB can be written back from its command. Assumes nothing.
+-- Nothing is lost: a CDB can be written back from its command.
 use Prim.Native.Nat.{ℕ, _+_, _≤_, _<_}
 use native.Mathlib.Nat.{zero-add}
 use native.Mathlib.Omega.{arith}

@@ -1,4 +1,4 @@
--- How many bytes a command with a list sends. Assumes nothing.
+-- How many bytes a command with a list sends.
 use Prim.Native.Nat.{ℕ, _+_, _*_, _≤_}
 use native.Mathlib.Omega.{arith}
 use mathlib.Core.Bool.{Bool, true, false, cond}

@@ -1,4 +1,4 @@
--- The stages join to the list of checks. Assumes nothing.
+-- The stages join to the list of checks.
 use Prim.Native.Nat.{ℕ}
 use mathlib.Core.Bool.{true, false}
 use mathlib.Core.List.{List}
@@ -8,7 +8,7 @@ use lib.Bits.{bitAnd}
 use lib.Dec.{eqb}
 use lib.ListN.{length, getD}
 use borrow.Author.Tests.{eq-eqb, ne-eqb}
-use Rattle.rules.specs.Cases.{either}
+use Rattle.folds.specs.Cases.{either}
 use Rattle.geometry.specs.declared.Geometry.{Geometry}
 use Rattle.drives.specs.Table.{failed}
 use Rattle.sense.specs.declared.Answer.the-variants.{TargetFailed, BadField}
@@ -20,17 +20,17 @@ use Rattle.command.specs.Lossless.{command-op}
 use Rattle.meaning.specs.declared.Seen.the-variants.{Cdb, Drive}
 use Rattle.meaning.specs.declared.Decision.the-variants.{Stop}
 use Rattle.meaning.specs.Checks.{decideOf}
-use Rattle.single.specs.Stages.{roomyOf, plainStage, limitedStage, readOf, writeOf, xpwriteOf, xdreadOf, matchedOf, answeredOf, retainedOf, xdwriteTenOf, xdwritereadOf}
-use Rattle.double.specs.Stages.{secondedOf, reachedOf, settledOf, limitedOf, xdwriteOf}
-use Rattle.several.specs.Stages.{faultOr, rebuiltOf, gatheredOf, regeneratedOf, placedOf, lengthOf, ownedOf, headedOf, listSizedOf, countedOf, fieldsOf, rebuildOf, regenerateOf}
+use Rattle.decide_one.specs.Stages.{roomyOf, plainStage, limitedStage, readOf, writeOf, xpwriteOf, xdreadOf, matchedOf, answeredOf, retainedOf, xdwriteTenOf, xdwritereadOf}
+use Rattle.decide_two.specs.Stages.{check10Of, check10, fromCheck9, limitedOf, xdwriteOf}
+use Rattle.decide_list.specs.Stages.{faultOr, rebuiltOf, gatheredOf, regeneratedOf, placedOf, lengthOf, ownedOf, headedOf, listSizedOf, countedOf, fieldsOf, rebuildOf, regenerateOf}
 use Rattle.decide.specs.Called.{Addressed, addressed-found}
-use Rattle.decide.specs.Stages.{eachOf, flaggedOf, checkedOf, sizedOf, openedOf}
+use Rattle.decide.specs.Stages.{eachOf, flaggedOf, checkedOf, fromCheck2, fromCall3}
 
 -- ---- each command's stages are its list of checks
 
 module _ (m : List ℕ) (g : Geometry) (t : ℕ) (k : Command) (s : List ℕ) (r : ℕ) where
   as-xdwrite : flaggedOf XdWrite m g t k s r ≡ checkedOf XdWrite m g t k s r
-  unfolding flaggedOf checkedOf xdwriteOf limitedOf settledOf retainedOf reachedOf secondedOf
+  unfolding flaggedOf checkedOf xdwriteOf limitedOf fromCheck9 retainedOf check10 check10Of
   as-xdwrite = ⊎-elim (λ e. rw e) (λ e. rw e) (either (eqb (secOf k) 3))
 
   as-rebuild : flaggedOf Rebuild m g t k s r ≡ checkedOf Rebuild m g t k s r
@@ -68,25 +68,25 @@ module _ (m : List ℕ) (g : Geometry) (t : ℕ) (k : Command) (s : List ℕ) (r
     flags-on h o′ q = rw (eq-eqb (bitAnd (k .flags) (zeroBits o)) 0 (ap (bitAnd (k .flags)) (sym e) ∙ h)) (ap (λ (x : Op). eachOf x m g t k s r) (sym q))
 
 module _ (m : List ℕ) (g : Geometry) (t : ℕ) (c s : List ℕ) (r : ℕ) where
-  pub sized-failed : (o : Op) → (sizeOf o ≡ 0 → ⊥) → length c ≡ sizeOf o → failed m g t ≡ true
-      → Stop 3 (Drive t) TargetFailed ≡ sizedOf o m g t c s r
-  unfolding sizedOf
-  sized-failed o z l f = rw (ne-eqb (sizeOf o) 0 z, eq-eqb (length c) (sizeOf o) l, f)
+  pub check-2-failed : (o : Op) → (sizeOf o ≡ 0 → ⊥) → length c ≡ sizeOf o → failed m g t ≡ true
+      → Stop 3 (Drive t) TargetFailed ≡ fromCheck2 o m g t c s r
+  unfolding fromCheck2
+  check-2-failed o z l f = rw (ne-eqb (sizeOf o) 0 z, eq-eqb (length c) (sizeOf o) l, f)
 
-  pub sized-on : (o : Op) (k : Command) → k ≡ commandOf o c → (sizeOf o ≡ 0 → ⊥) → length c ≡ sizeOf o → failed m g t ≡ false
-      → flaggedOf (k .op) m g t k s r ≡ sizedOf o m g t c s r
-  unfolding sizedOf
-  sized-on o k e z l f =
+  pub check-2-on : (o : Op) (k : Command) → k ≡ commandOf o c → (sizeOf o ≡ 0 → ⊥) → length c ≡ sizeOf o → failed m g t ≡ false
+      → flaggedOf (k .op) m g t k s r ≡ fromCheck2 o m g t c s r
+  unfolding fromCheck2
+  check-2-on o k e z l f =
       let p : k .op ≡ o = ap (λ (x : Command). x .op) e ∙ command-op o c in
       ap (λ (x : Op). flaggedOf x m g t k s r) p
       ∙ joined m g t k s r o z
       ∙ ap (λ (x : Command). checkedOf o m g t x s r) e
       ∙ sym (rw (ne-eqb (sizeOf o) 0 z, eq-eqb (length c) (sizeOf o) l, f))
 
-  pub opened-on : (o : Op) (b : ℕ) → b ≡ getD c 0 0 → o ≡ opOf b → (length c ≡ 0 → ⊥) → sizedOf o m g t c s r ≡ openedOf m g t c s r
-  unfolding openedOf
-  opened-on o b e h z = rw (h, e, ne-eqb (length c) 0 z)
+  pub call-3-on : (o : Op) (b : ℕ) → b ≡ getD c 0 0 → o ≡ opOf b → (length c ≡ 0 → ⊥) → fromCheck2 o m g t c s r ≡ fromCall3 m g t c s r
+  unfolding fromCall3
+  call-3-on o b e h z = rw (h, e, ne-eqb (length c) 0 z)
 
-  pub decide-on : (a : ℕ) → Addressed m a g t → openedOf m g t c s r ≡ decideOf m a c s r
-  unfolding decideOf openedOf sizedOf checkedOf
-  decide-on a x = ap (λ (y : Geometry). openedOf m y t c s r) (x .header) ∙ rw (x .valid, addressed-found m a g t x)
+  pub decide-on : (a : ℕ) → Addressed m a g t → fromCall3 m g t c s r ≡ decideOf m a c s r
+  unfolding decideOf fromCall3 fromCheck2 checkedOf
+  decide-on a x = ap (λ (y : Geometry). fromCall3 m y t c s r) (x .header) ∙ rw (x .valid, addressed-found m a g t x)

@@ -1,4 +1,4 @@
--- The list of checks cut into the stages that the code takes, from the last to the first. Assumes nothing.
+-- The list of checks cut into the stages that the code takes, from the last to the first.
 use Prim.Native.Nat.{ℕ}
 use mathlib.Core.Bool.{not, _&&_}
 use mathlib.Core.List.{List, [], _∷_}
@@ -15,9 +15,9 @@ use Rattle.meaning.specs.declared.Seen.the-variants.{Dash, Cdb}
 use Rattle.meaning.specs.declared.Decision.{Decision}
 use Rattle.meaning.specs.declared.Decision.the-variants.{Stop}
 use Rattle.meaning.specs.Checks.{isUnknown, known, zeroFlags, commandChecks, acts}
-use Rattle.single.specs.Stages.{readOf, writeOf, xpwriteOf, xdreadOf, xdwriteTenOf, xdwritereadOf}
-use Rattle.double.specs.Stages.{xdwriteOf}
-use Rattle.several.specs.Stages.{rebuildOf, regenerateOf}
+use Rattle.decide_one.specs.Stages.{readOf, writeOf, xpwriteOf, xdreadOf, xdwriteTenOf, xdwritereadOf}
+use Rattle.decide_two.specs.Stages.{xdwriteOf}
+use Rattle.decide_list.specs.Stages.{rebuildOf, regenerateOf}
 
 -- checks 4 to 11, but for the bits of byte 1
 abbrev pub eachOf : Op → List ℕ → Geometry → ℕ → Command → List ℕ → ℕ → Decision
@@ -39,10 +39,10 @@ flaggedOf o m g t k s r = first Stop (zeroFlags o k) (eachOf o m g t k s r)
 unfoldable pub checkedOf : Op → List ℕ → Geometry → ℕ → Command → List ℕ → ℕ → Decision
 checkedOf o m g t k s r = first Stop (commandChecks o m g t k s r) (acts o m g t k s)
 
-unfoldable pub sizedOf : Op → List ℕ → Geometry → ℕ → List ℕ → List ℕ → ℕ → Decision
-sizedOf o m g t c s r =
+unfoldable pub fromCheck2 : Op → List ℕ → Geometry → ℕ → List ℕ → List ℕ → ℕ → Decision
+fromCheck2 o m g t c s r =
     first Stop (rule 1 Dash (not (isUnknown o) && not (eqb (length c) (sizeOf o))) BadCdb ∷ known m g t o)
     (checkedOf o m g t (commandOf o c) s r)
 
-unfoldable pub openedOf : List ℕ → Geometry → ℕ → List ℕ → List ℕ → ℕ → Decision
-openedOf m g t c s r = first Stop (rule 1 Dash (eqb (length c) 0) BadCdb ∷ []) (sizedOf (opOf (getD c 0 0)) m g t c s r)
+unfoldable pub fromCall3 : List ℕ → Geometry → ℕ → List ℕ → List ℕ → ℕ → Decision
+fromCall3 m g t c s r = first Stop (rule 1 Dash (eqb (length c) 0) BadCdb ∷ []) (fromCheck2 (opOf (getD c 0 0)) m g t c s r)

@@ -22,15 +22,15 @@ pub fn each(image: &[u8], g: Geometry, t: usize, k: Command, sent: &[u8], room: 
     }
     // each arm returns by itself: a match that yields a decision holds it twice in the proof
     match op {
-        Op::XdWrite => return double::xdwrite(image, g, t, k, sent),
-        Op::XpWrite => return single::xpwrite(g, t, k, sent),
-        Op::XdRead => return single::xdread(image, g, t, k, sent, room),
-        Op::Rebuild => return several::rebuild(image, g, t, k, sent),
-        Op::Regenerate => return several::regenerate(image, g, t, k, sent),
-        Op::Read => return single::read(g, t, k, sent, room),
-        Op::Write => return single::write(g, t, k, sent),
-        Op::XdWriteTen => return single::xdwrite_ten(image, g, t, k, sent),
-        Op::XdWriteRead => return single::xdwriteread(g, t, k, sent, room),
+        Op::XdWrite => return decide_two::xdwrite(image, g, t, k, sent),
+        Op::XpWrite => return decide_one::xpwrite(g, t, k, sent),
+        Op::XdRead => return decide_one::xdread(image, g, t, k, sent, room),
+        Op::Rebuild => return decide_list::rebuild(image, g, t, k, sent),
+        Op::Regenerate => return decide_list::regenerate(image, g, t, k, sent),
+        Op::Read => return decide_one::read(g, t, k, sent, room),
+        Op::Write => return decide_one::write(g, t, k, sent),
+        Op::XdWriteTen => return decide_one::xdwrite_ten(image, g, t, k, sent),
+        Op::XdWriteRead => return decide_one::xdwriteread(g, t, k, sent, room),
         Op::Unknown => return Decision::Stop(2, Seen::Cdb(0), Answer::UnknownCode),
     }
 }

@@ -4,18 +4,18 @@ mod each;
 
 use command::Command;
 use command::Op;
+use folds::Found;
 use geometry::Address;
 use geometry::Geometry;
 use meaning::Decision;
 use meaning::Seen;
-use rules::Found;
 use sense::Answer;
 ghost use mathlib.Core.Path.{_≡_};
 ghost use Prim.Native.Nat.{_<_};
 ghost use Rattle.geometry.specs.Frame.{Framed};
 ghost use Rattle.meaning.specs.Checks.{decideOf};
 ghost use Rattle.decide.specs.Called.{calledOf};
-ghost use Rattle.decide.specs.Stages.{openedOf, sizedOf};
+ghost use Rattle.decide.specs.Stages.{fromCall3, fromCheck2};
 
 // What calls 1 and 2 say: the answer, or the image's geometry and the target's index.
 pub enum Reached {
@@ -43,24 +43,31 @@ pub fn decide(image: &[u8], target: Address, cdb: &[u8], sent: &[u8], room: usiz
 {
     match called(image, target) {
         Reached::Refused(answer) => return Decision::Stop(1, Seen::Dash, answer),
-        Reached::Drive(g, t) => return opened(image, g, t, cdb, sent, room),
+        Reached::Drive(g, t) => return from_call_3(image, g, t, cdb, sent, room),
     }
 }
 
 // Call 3, of an empty CDB.
-fn opened(image: &[u8], g: Geometry, t: usize, cdb: &[u8], sent: &[u8], room: usize) -> Decision
+fn from_call_3(
+    image: &[u8],
+    g: Geometry,
+    t: usize,
+    cdb: &[u8],
+    sent: &[u8],
+    room: usize,
+) -> Decision
     requires { ⌜ Framed (now image) g × (t < g .d) ⌝ }
-    ensures { λ r. ⌜ r ≡ openedOf (now (image .entry)) g t (now (cdb .entry)) (now (sent .entry)) room ⌝ }
+    ensures { λ r. ⌜ r ≡ fromCall3 (now (image .entry)) g t (now (cdb .entry)) (now (sent .entry)) room ⌝ }
 {
     if cdb.len() == 0 {
         return Decision::Stop(1, Seen::Dash, Answer::BadCdb);
     }
     let op = command::op_of(octets::byte(cdb, 0));
-    sized(op, image, g, t, cdb, sent, room)
+    from_check_2(op, image, g, t, cdb, sent, room)
 }
 
 // Call 3 of a known code, checks 2 and 3. An unknown code has no length of its own.
-fn sized(
+fn from_check_2(
     op: Op,
     image: &[u8],
     g: Geometry,
@@ -70,7 +77,7 @@ fn sized(
     room: usize,
 ) -> Decision
     requires { ⌜ Framed (now image) g × (t < g .d) ⌝ }
-    ensures { λ r. ⌜ r ≡ sizedOf op (now (image .entry)) g t (now (cdb .entry)) (now (sent .entry)) room ⌝ }
+    ensures { λ r. ⌜ r ≡ fromCheck2 op (now (image .entry)) g t (now (cdb .entry)) (now (sent .entry)) room ⌝ }
 {
     let size = command::size_of(op);
     if size == 0 {

@@ -1,4 +1,4 @@
--- What the tests of the table say. Assumes nothing.
+-- What the tests of the table say.
 use Prim.Native.Nat.{ℕ, _+_, _<_}
 use native.Mathlib.Omega.{arith}
 use mathlib.Core.List.{List}
@@ -8,9 +8,9 @@ use mathlib.Core.Logic.{⊎-elim}
 use borrow.Author.Tests.{eqb-false, not-true}
 use Rattle.octets.specs.Octets.{Octets}
 use Rattle.octets.specs.Number.{be-lt}
-use Rattle.rules.specs.Cases.{same, apart}
-use Rattle.rules.specs.Every.{holds}
-use Rattle.rules.specs.All.{all-at}
+use Rattle.folds.specs.Cases.{same, apart}
+use Rattle.folds.specs.Every.{holds}
+use Rattle.folds.specs.All.{all-at}
 use Rattle.geometry.specs.declared.Geometry.{Geometry}
 use Rattle.geometry.specs.Header.{entryAt}
 use Rattle.geometry.specs.Frame.{Framed}

@@ -1,4 +1,4 @@
--- What lies before the slots decides header and table: a change from the slots on leaves both. Assumes nothing.
+-- What lies before the slots decides header and table: a change from the slots on leaves both.
 use Prim.Native.Nat.{ℕ, _+_, _≤_, _<_}
 use native.Mathlib.Omega.{arith}
 use mathlib.Core.List.{List}
@@ -9,9 +9,9 @@ use Rattle.octets.specs.Part.{part, front-byte}
 use Rattle.octets.specs.Put.{put}
 use Rattle.octets.specs.PutPut.{part-put-below}
 use Rattle.octets.specs.Number.{front-be}
-use Rattle.rules.specs.Every.{every-ext}
-use Rattle.rules.specs.All.{all-ext}
-use Rattle.rules.specs.Least.{least-ext}
+use Rattle.folds.specs.Every.{every-ext}
+use Rattle.folds.specs.All.{all-ext}
+use Rattle.folds.specs.Least.{least-ext}
 use Rattle.geometry.specs.declared.Geometry.{Geometry}
 use Rattle.geometry.specs.Header.{geometryOf, entryAt}
 use Rattle.geometry.specs.Frame.{Placed}

@@ -1,4 +1,4 @@
--- "Marking writes the state byte alone": what an image is after it. Assumes nothing.
+-- "Marking writes the state byte alone": what an image is after it.
 use Prim.Native.Nat.{ℕ, _+_, _≤_, _<_}
 use native.Mathlib.Nat.{add-zero}
 use native.Mathlib.Omega.{arith}
@@ -12,9 +12,9 @@ use Rattle.octets.specs.Part.{part}
 use Rattle.octets.specs.Put.{put, length-put, getD-put-before, getD-put-in, getD-put-after}
 use Rattle.octets.specs.PutPut.{part-put-above}
 use Rattle.octets.specs.Number.{be-put-apart}
-use Rattle.rules.specs.Cases.{same, apart, order}
-use Rattle.rules.specs.Every.{every-of}
-use Rattle.rules.specs.All.{all-at, all-intro}
+use Rattle.folds.specs.Cases.{same, apart, order}
+use Rattle.folds.specs.Every.{every-of}
+use Rattle.folds.specs.All.{all-at, all-intro}
 use Rattle.geometry.specs.declared.Geometry.{Geometry}
 use Rattle.geometry.specs.Header.{geometryOf, entryAt}
 use Rattle.geometry.specs.Frame.{Placed, Framed}

@@ -1,4 +1,4 @@
--- 01: "Drive table at 32: per drive 4 bytes, state (0 present, 1 failed) and a 3-byte address. Addresses differ." Assumes nothing.
+-- 01: "Drive table at 32: per drive 4 bytes, state (0 present, 1 failed) and a 3-byte address. Addresses differ."
 use Prim.Native.Nat.{ℕ, _+_}
 use mathlib.Core.List.{List, [], _∷_}
 use mathlib.Core.Bool.{Bool, not}
@@ -6,10 +6,10 @@ use lib.ListN.{getD}
 use lib.Dec.{leb, eqb}
 use Rattle.octets.specs.Put.{put}
 use Rattle.octets.specs.Number.{be}
-use Rattle.rules.specs.declared.Found.{Found}
-use Rattle.rules.specs.Every.{every}
-use Rattle.rules.specs.All.{allBelow}
-use Rattle.rules.specs.Least.{leastBelow}
+use Rattle.folds.specs.declared.Found.{Found}
+use Rattle.folds.specs.Every.{every}
+use Rattle.folds.specs.All.{allBelow}
+use Rattle.folds.specs.Least.{leastBelow}
 use Rattle.geometry.specs.declared.Geometry.{Geometry}
 use Rattle.geometry.specs.Header.{entryAt}
 

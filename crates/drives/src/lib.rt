@@ -1,8 +1,8 @@
 // The drive table of a shelf's image: each drive's state and address, the lookup of addresses, and
 // the marking of a drive.
+use folds::Found;
 use geometry::Address;
 use geometry::Geometry;
-use rules::Found;
 ghost use mathlib.Core.Path.{_≡_};
 ghost use Prim.Native.Nat.{_<_};
 ghost use Rattle.geometry.specs.Frame.{Framed};

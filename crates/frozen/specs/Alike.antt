@@ -6,8 +6,8 @@ use mathlib.Core.Path.{_≡_, refl, sym, ap, _∙_}
 use lib.Dec.{ltb, eqb}
 use Rattle.octets.specs.Put.{put}
 use Rattle.octets.specs.Operands.{xorAll}
-use Rattle.rules.specs.declared.Found.the-variants.{At}
-use Rattle.rules.specs.Every.{every}
+use Rattle.folds.specs.declared.Found.the-variants.{At}
+use Rattle.folds.specs.Every.{every}
 use Rattle.geometry.specs.declared.Geometry.{Geometry}
 use Rattle.geometry.specs.Header.{geometryOf, rangesOk, offsetsOk, framedOk, slotAt, place}
 use Rattle.drives.specs.Table.{statesOk, newAddress, addressesOk, tableOk, driveOf}

@@ -11,10 +11,10 @@ use Rattle.octets.specs.Put.{put}
 use Rattle.octets.specs.Xor.{_⊻_}
 use Rattle.octets.specs.Operands.{xorAll}
 use Rattle.octets.specs.Number.{be}
-use Rattle.rules.specs.declared.Found.{Found}
-use Rattle.rules.specs.declared.Found.the-variants.{At, Nothing}
+use Rattle.folds.specs.declared.Found.{Found}
+use Rattle.folds.specs.declared.Found.the-variants.{At, Nothing}
 use Rattle.rules.specs.Rule.{Rule, rule}
-use Rattle.rules.specs.Least.{leastBelow, index}
+use Rattle.folds.specs.Least.{leastBelow, index}
 use Rattle.frozen.specs.Image.{Header, slotAt, blockAt, blocks, failed, driveOf, slot}
 use Rattle.frozen.specs.Results.{emptySlot, retainedOver, newest, released}
 use Rattle.frozen.specs.Answers.{Answer, good, busy, call, refusal, absent, nested}

@@ -6,11 +6,11 @@ use lib.Dec.{leb, ltb, eqb}
 use lib.ListN.{length, getD}
 use Rattle.octets.specs.Part.{part}
 use Rattle.octets.specs.Number.{be}
-use Rattle.rules.specs.declared.Found.{Found}
-use Rattle.rules.specs.Every.{every}
-use Rattle.rules.specs.All.{allBelow}
-use Rattle.rules.specs.Count.{countBelow}
-use Rattle.rules.specs.Least.{leastBelow}
+use Rattle.folds.specs.declared.Found.{Found}
+use Rattle.folds.specs.Every.{every}
+use Rattle.folds.specs.All.{allBelow}
+use Rattle.folds.specs.Count.{countBelow}
+use Rattle.folds.specs.Least.{leastBelow}
 
 -- "The header is eight 4-byte fields: drives D .., blocks per drive B .., block length L .., slots S .., slot size M in blocks .., then the
 -- offsets of the drive table, slots and media."

@@ -5,10 +5,10 @@ use mathlib.Core.List.{List, [], _∷_, _++_, map}
 use mathlib.Core.Path.{_≡_, refl, sym, ap, _∙_}
 use lib.Dec.{ltb}
 use Rattle.octets.specs.Number.{toBe}
-use Rattle.rules.specs.declared.Found.{Found}
-use Rattle.rules.specs.declared.Found.the-variants.{At, Nothing}
+use Rattle.folds.specs.declared.Found.{Found}
+use Rattle.folds.specs.declared.Found.the-variants.{At, Nothing}
 use Rattle.rules.specs.Rule.{Rule, rule, first, first-append}
-use Rattle.rules.specs.Least.{index}
+use Rattle.folds.specs.Least.{index}
 use Rattle.drives.specs.Table.{driveOf, failed}
 use Rattle.sense.specs.declared.Answer.{Answer}
 use Rattle.sense.specs.declared.Answer.the-variants.{NestedAddress, NestedFailed, NestedRange}

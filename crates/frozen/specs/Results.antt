@@ -6,10 +6,10 @@ use lib.Dec.{ltb, eqb}
 use lib.ListN.{replicate}
 use Rattle.octets.specs.Put.{put}
 use Rattle.octets.specs.Number.{toBe}
-use Rattle.rules.specs.declared.Found.{Found}
-use Rattle.rules.specs.declared.Found.the-variants.{At, Nothing}
-use Rattle.rules.specs.Every.{every}
-use Rattle.rules.specs.Least.{leastBelow}
+use Rattle.folds.specs.declared.Found.{Found}
+use Rattle.folds.specs.declared.Found.the-variants.{At, Nothing}
+use Rattle.folds.specs.Every.{every}
+use Rattle.folds.specs.Least.{leastBelow}
 use Rattle.frozen.specs.Image.{Header, slotAt, Slot, slot, used, usedCount}
 
 -- "A new result takes the lowest-numbered empty slot"

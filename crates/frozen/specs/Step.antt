@@ -6,7 +6,7 @@ use lib.Dec.{ltb, eqb}
 use lib.ListN.{length, getD}
 use Rattle.octets.specs.Put.{put}
 use Rattle.rules.specs.Rule.{first}
-use Rattle.rules.specs.Least.{index}
+use Rattle.folds.specs.Least.{index}
 use Rattle.frozen.specs.Image.{Header, headerOf, entryAt, failed, driveOf, valid}
 use Rattle.frozen.specs.Results.{dropped}
 use Rattle.frozen.specs.Answers.{Answer, good, call, refusal}

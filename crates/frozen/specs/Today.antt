@@ -9,9 +9,9 @@ use lib.ListN.{length, getD}
 use Rattle.octets.specs.Put.{put}
 use Rattle.octets.specs.Xor.{_⊻_}
 use Rattle.octets.specs.Number.{be, toBe}
-use Rattle.rules.specs.declared.Found.{Found}
+use Rattle.folds.specs.declared.Found.{Found}
 use Rattle.rules.specs.Rule.{rule, first, first-append}
-use Rattle.rules.specs.Least.{index}
+use Rattle.folds.specs.Least.{index}
 use Rattle.geometry.specs.declared.Geometry.{Geometry}
 use Rattle.geometry.specs.Header.{geometryOf, rangesOk, offsetsOk, framedOk, slotAt, place}
 use Rattle.drives.specs.Table.{statesOk, newAddress, addressesOk, tableOk, driveOf, marked}

@@ -1,4 +1,4 @@
--- What a job leaves, and what it needs. Assumes nothing.
+-- What a job leaves, and what it needs.
 use Prim.Native.Nat.{ℕ, _+_, _*_, _≤_, _<_}
 use mathlib.Core.Path.{_≡_}
 use mathlib.Core.Bool.{true, false, cond}

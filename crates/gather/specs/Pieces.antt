@@ -1,4 +1,4 @@
--- A piece of the XOR: k bytes of each operand, from byte o of it on. Assumes nothing.
+-- A piece of the XOR: k bytes of each operand, from byte o of it on.
 use Prim.Native.Nat.{ℕ, zero, suc, _+_, _*_, _≤_, _<_}
 use mathlib.Core.Path.{_≡_}
 use mathlib.Core.Bool.{Bool, true, false, cond}

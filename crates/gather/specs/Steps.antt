@@ -1,4 +1,4 @@
--- How the code goes on from operand to operand. Assumes nothing.
+-- How the code goes on from operand to operand.
 use Prim.Native.Nat.{ℕ, zero, suc, _+_, _-_, _*_, _≤_, _<_}
 use native.Mathlib.Nat.{zero-add, suc-add}
 use native.Mathlib.Omega.{arith}
@@ -12,7 +12,7 @@ use Rattle.octets.specs.Part.{part, part-part}
 use Rattle.octets.specs.Put.{put}
 use Rattle.octets.specs.Xor.{_⊻_, xor-nil, xor-regroups}
 use Rattle.octets.specs.Operands.{xorAll, xorAll-one, xorAll-append}
-use Rattle.rules.specs.Cases.{order}
+use Rattle.folds.specs.Cases.{order}
 use Rattle.gather.specs.declared.Job.{Job}
 use Rattle.gather.specs.Pieces.{seedPiece, piecesFrom, atOnce, intPiece, sumPiece, Within, Laid}
 

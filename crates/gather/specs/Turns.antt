@@ -1,4 +1,4 @@
--- How the code goes on from piece to piece. Assumes nothing.
+-- How the code goes on from piece to piece.
 use Prim.Native.Nat.{ℕ, zero, suc, _+_, _*_, _≤_, _<_}
 use native.Mathlib.Nat.{zero-add, add-assoc}
 use native.Mathlib.Omega.{arith}

@@ -1,4 +1,4 @@
--- The XOR at the places that were found is the XOR that the list means. Assumes nothing.
+-- The XOR at the places that were found is the XOR that the list means.
 use Prim.Native.Nat.{ℕ, zero, suc, _+_, _*_, _≤_, _<_}
 use native.Mathlib.Nat.{add-zero}
 use native.Mathlib.Omega.{arith}

@@ -1,11 +1,11 @@
 // Where the sources of a list lie.
 use command::Source;
+use folds::Found;
 use geometry::Geometry;
-use rules::Found;
 ghost use mathlib.Core.Path.{_≡_};
 ghost use Prim.Native.Nat.{_≤_};
 ghost use lib.ListN.{length};
-ghost use Rattle.rules.specs.Least.{index};
+ghost use Rattle.folds.specs.Least.{index};
 ghost use Rattle.geometry.specs.Frame.{Framed};
 ghost use Rattle.meaning.specs.Acts.{startOf};
 ghost use Rattle.gather.specs.Job.{Named, Listed};

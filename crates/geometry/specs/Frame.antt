@@ -1,4 +1,4 @@
--- What the header's tests say, by name, and the bounds that follow. Assumes nothing.
+-- What the header's tests say, by name, and the bounds that follow.
 use Prim.Native.Nat.{ℕ, _*_, _%_, _≤_}
 use native.Mathlib.Nat.{mul-le-mul}
 use native.Mathlib.Omega.{arith}
@@ -7,7 +7,7 @@ use mathlib.Core.Bool.{true}
 use mathlib.Core.Path.{_≡_, _∙_}
 use lib.ListN.{length}
 use borrow.Author.Tests.{leb-true, eqb-true}
-use Rattle.rules.specs.Every.{holds}
+use Rattle.folds.specs.Every.{holds}
 use Rattle.geometry.specs.declared.Geometry.{Geometry}
 use Rattle.geometry.specs.Header.{geometryOf, rangesOk, offsetsOk, framedOk, slotSize, tableEnd, slotsEnd, endOf}
 

@@ -1,4 +1,4 @@
--- 01, "The image: counts, then offsets". All numbers are big-endian. Assumes nothing.
+-- 01, "The image: counts, then offsets". All numbers are big-endian.
 use Prim.Native.Nat.{ℕ, _+_, _*_, _%_}
 use mathlib.Core.List.{List, [], _∷_}
 use mathlib.Core.Bool.{Bool}
@@ -6,7 +6,7 @@ use lib.ListN.{length}
 use lib.Dec.{leb, eqb}
 use Rattle.octets.specs.Part.{part}
 use Rattle.octets.specs.Number.{be}
-use Rattle.rules.specs.Every.{every}
+use Rattle.folds.specs.Every.{every}
 use Rattle.geometry.specs.declared.Geometry.{Geometry}
 
 -- "The header is eight 4-byte fields": D, B, L, S, M, "then the offsets of the drive table, slots and media"

@@ -1,4 +1,4 @@
--- What leaves the header leaves the geometry, and with the length the frame. Assumes nothing.
+-- What leaves the header leaves the geometry, and with the length the frame.
 use mathlib.Core.Path.{_≡_, ap₂}
 use mathlib.Core.List.{List, [], _∷_}
 use Prim.Native.Nat.{ℕ, _+_, _≤_}
@@ -9,7 +9,7 @@ use Rattle.octets.specs.Part.{part}
 use Rattle.octets.specs.Put.{put}
 use Rattle.octets.specs.PutPut.{part-put-below}
 use Rattle.octets.specs.Number.{be, front-be}
-use Rattle.rules.specs.Every.{every}
+use Rattle.folds.specs.Every.{every}
 use Rattle.geometry.specs.declared.Geometry.{Geometry}
 use Rattle.geometry.specs.Header.{geometryOf, rangesOk, offsetsOk, endOf, framedOk}
 

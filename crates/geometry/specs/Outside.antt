@@ -1,10 +1,10 @@
 -- Ranges of an image that meet no slot's record: what comes before the slots, the slots' data, and the media.
--- Assumes nothing.
+--
 use Prim.Native.Nat.{ℕ, _+_, _*_, _≤_, _<_}
 use native.Mathlib.Omega.{arith}
 use mathlib.Core.Path.{ap}
 use mathlib.Core.Logic.{_⊎_, inl, inr, ⊎-elim}
-use Rattle.rules.specs.Cases.{same}
+use Rattle.folds.specs.Cases.{same}
 use Rattle.geometry.specs.declared.Geometry.{Geometry}
 use Rattle.geometry.specs.Header.{slotAt, dataAt}
 use Rattle.geometry.specs.Frame.{Placed}

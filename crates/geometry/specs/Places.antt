@@ -1,4 +1,4 @@
--- Where entries, slots and blocks lie, and that they do not meet. Assumes nothing.
+-- Where entries, slots and blocks lie, and that they do not meet.
 use mathlib.Core.Path.{_≡_, ap, _∙_}
 use mathlib.Core.Logic.{inl, inr, ⊎-elim}
 use mathlib.Core.List.{List}
@@ -7,7 +7,7 @@ use native.Mathlib.Nat.{mul-le-mul-right, one-mul, suc-mul, add-mul}
 use native.Mathlib.Omega.{arith}
 use lib.ListN.{length}
 use Rattle.octets.specs.Part.{length-part, Apart}
-use Rattle.rules.specs.Cases.{apart}
+use Rattle.folds.specs.Cases.{apart}
 use Rattle.geometry.specs.declared.Geometry.{Geometry}
 use Rattle.geometry.specs.Header.{slotSize, tableEnd, endOf, slotAt, dataAt, place, blocksAt}
 use Rattle.geometry.specs.Frame.{InRange, Placed, Framed, slots-small, media-small, blocks-small}

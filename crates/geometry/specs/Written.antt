@@ -1,4 +1,4 @@
--- A write over blocks of one drive leaves the blocks of the others. Assumes nothing.
+-- A write over blocks of one drive leaves the blocks of the others.
 use mathlib.Core.Path.{_≡_}
 use mathlib.Core.Logic.{inl, inr, ⊎-elim}
 use mathlib.Core.List.{List}
@@ -8,7 +8,7 @@ use lib.ListN.{length}
 use Rattle.octets.specs.Part.{part}
 use Rattle.octets.specs.Put.{put}
 use Rattle.octets.specs.PutPut.{part-put-apart}
-use Rattle.rules.specs.Cases.{apart}
+use Rattle.folds.specs.Cases.{apart}
 use Rattle.geometry.specs.declared.Geometry.{Geometry}
 use Rattle.geometry.specs.Header.{place}
 use Rattle.geometry.specs.Places.{place-before}

@@ -1,5 +1,5 @@
 -- 01, "Bench shelf": "D 3, B 2, L 4, S 1, M 2; image 92 bytes, slots at 44, media at 68. Addresses 1, 2, 3, all present; block 0 holds
--- 0A0B0C0D, 01020304, 0B090F09; block 1 zeros." Assumes nothing.
+-- 0A0B0C0D, 01020304, 0B090F09; block 1 zeros."
 use Prim.Native.Nat.{ℕ}
 use mathlib.Core.List.{List, [], _∷_, _++_}
 use mathlib.Core.Bool.{true, false}
@@ -7,9 +7,9 @@ use mathlib.Core.Path.{_≡_, refl}
 use lib.ListN.{set, take, replicate}
 use Rattle.octets.specs.Part.{part}
 use Rattle.octets.specs.Number.{num}
-use Rattle.rules.specs.Every.{every}
-use Rattle.rules.specs.All.{allBelow}
-use Rattle.rules.specs.Count.{countBelow}
+use Rattle.folds.specs.Every.{every}
+use Rattle.folds.specs.All.{allBelow}
+use Rattle.folds.specs.Count.{countBelow}
 use Rattle.geometry.specs.declared.Geometry.{Geometry}
 use Rattle.geometry.specs.Header.{rangesOk, offsetsOk, framedOk, slotAt}
 use Rattle.drives.specs.Table.{statesOk, newAddress, addressesOk, tableOk}

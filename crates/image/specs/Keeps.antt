@@ -1,4 +1,4 @@
--- Each change of an image leaves a valid one valid, with the same geometry. Assumes nothing.
+-- Each change of an image leaves a valid one valid, with the same geometry.
 use mathlib.Core.Path.{_≡_, _∙_}
 use mathlib.Core.Logic.{inl, inr}
 use mathlib.Core.Bool.{true}
@@ -7,7 +7,7 @@ use Prim.Native.Nat.{ℕ, _*_, _≤_, _<_}
 use native.Mathlib.Nat.{le-refl}
 use native.Mathlib.Omega.{arith}
 use Rattle.octets.specs.Put.{put, length-put}
-use Rattle.rules.specs.declared.Found.the-variants.{At}
+use Rattle.folds.specs.declared.Found.the-variants.{At}
 use Rattle.geometry.specs.declared.Geometry.{Geometry}
 use Rattle.geometry.specs.Header.{slotSize}
 use Rattle.geometry.specs.Kept.{framed-alike}

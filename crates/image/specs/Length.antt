@@ -1,4 +1,4 @@
--- A valid image has just one length: cut off, or with a byte more, it is no shelf. Assumes nothing.
+-- A valid image has just one length: cut off, or with a byte more, it is no shelf.
 use mathlib.Core.Path.{_≡_, sym, ap, _∙_}
 use mathlib.Core.Bool.{true, false}
 use mathlib.Core.List.{List}
@@ -7,7 +7,7 @@ use native.Mathlib.Nat.{le-refl}
 use lib.ListN.{length}
 use borrow.Author.Tests.{lt-leb, ne-eqb}
 use Rattle.octets.specs.Part.{part}
-use Rattle.rules.specs.Every.{holds, fails}
+use Rattle.folds.specs.Every.{holds, fails}
 use Rattle.geometry.specs.Header.{geometryOf, framedOk, endOf}
 use Rattle.geometry.specs.Frame.{framed}
 use Rattle.geometry.specs.Kept.{front-geometry}

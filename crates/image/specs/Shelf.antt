@@ -1,10 +1,10 @@
--- What a valid image's tests say, by name, and what keeps an image valid. Assumes nothing.
+-- What a valid image's tests say, by name, and what keeps an image valid.
 use mathlib.Core.Path.{_≡_, refl, sym, ap, subst, _∙_}
 use mathlib.Core.List.{List}
 use mathlib.Core.Bool.{true}
 use Prim.Native.Nat.{ℕ, _≤_}
 use lib.ListN.{length}
-use Rattle.rules.specs.Every.{holds, every-of}
+use Rattle.folds.specs.Every.{holds, every-of}
 use Rattle.geometry.specs.declared.Geometry.{Geometry}
 use Rattle.geometry.specs.Header.{geometryOf, framedOk}
 use Rattle.geometry.specs.Frame.{Framed, framed, framed-long}

@@ -1,8 +1,8 @@
--- An image is valid (01, "The image"): call 1 is the answer to any other. Assumes nothing.
+-- An image is valid (01, "The image"): call 1 is the answer to any other.
 use Prim.Native.Nat.{ℕ}
 use mathlib.Core.List.{List, [], _∷_}
 use mathlib.Core.Bool.{Bool}
-use Rattle.rules.specs.Every.{every}
+use Rattle.folds.specs.Every.{every}
 use Rattle.geometry.specs.Header.{geometryOf, framedOk}
 use Rattle.drives.specs.Table.{tableOk}
 use Rattle.slots.specs.Slots.{slotsOk}

@@ -1,4 +1,4 @@
--- What the exported leaf answers, and what it leaves, for blocks of any lengths. Assumes nothing.
+-- What the exported leaf answers, and what it leaves, for blocks of any lengths.
 use Prim.Native.Nat.{ℕ}
 use mathlib.Core.List.{List, [], _∷_}
 use mathlib.Core.Bool.{Bool, true, false, cond}

@@ -1,5 +1,5 @@
 -- What a command that passed every check does to the image, and what it hands to the receive room (01, "Commands"; 02, A1). Every
--- operand is read from the image before the command; stores are done in the order in which they stand. Assumes nothing.
+-- operand is read from the image before the command; stores are done in the order in which they stand.
 use Prim.Native.Nat.{ℕ, zero, suc, _+_, _*_}
 use mathlib.Core.List.{List, [], _∷_, _++_}
 use mathlib.Core.Bool.{Bool, cond}
@@ -8,7 +8,7 @@ use Rattle.octets.specs.Part.{part}
 use Rattle.octets.specs.Put.{put}
 use Rattle.octets.specs.Xor.{_⊻_}
 use Rattle.octets.specs.Operands.{xorAll}
-use Rattle.rules.specs.Least.{index}
+use Rattle.folds.specs.Least.{index}
 use Rattle.geometry.specs.declared.Geometry.{Geometry}
 use Rattle.geometry.specs.Header.{slotAt, dataAt, place, blocksAt}
 use Rattle.drives.specs.Table.{driveOf}

@@ -1,11 +1,11 @@
--- What a decision to go grants the code that acts, by act. Assumes nothing.
+-- What a decision to go grants the code that acts, by act.
 use Prim.Native.Nat.{ℕ, _+_, _*_, _≤_, _<_}
 use mathlib.Core.Path.{_≡_}
 use mathlib.Core.Bool.{false, cond}
 use mathlib.Core.List.{List}
 use lib.Dec.{eqb}
 use lib.ListN.{length}
-use Rattle.rules.specs.declared.Found.the-variants.{At}
+use Rattle.folds.specs.declared.Found.the-variants.{At}
 use Rattle.geometry.specs.declared.Geometry.{Geometry}
 use Rattle.geometry.specs.Places.{Range}
 use Rattle.drives.specs.Table.{driveOf, failed}

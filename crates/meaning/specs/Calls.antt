@@ -1,4 +1,4 @@
--- The calls of a driver, one after the other. Assumes nothing.
+-- The calls of a driver, one after the other.
 use Prim.Native.Nat.{ℕ}
 use mathlib.Core.List.{List, [], _∷_}
 use Rattle.meaning.specs.Step.{stepImage, resetImage, markImage}

@@ -1,4 +1,4 @@
--- 01, "Bench shelf": C1 to C11 as one table. "Each case starts there." A room of 8 bytes and drive 1 where 01 names none. Assumes nothing.
+-- 01, "Bench shelf": C1 to C11 as one table. "Each case starts there." A room of 8 bytes and drive 1 where 01 names none.
 use Prim.Native.Nat.{ℕ}
 use mathlib.Core.List.{List, [], _∷_, _++_}
 use lib.ListN.{replicate}

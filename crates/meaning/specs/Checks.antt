@@ -1,6 +1,6 @@
 -- 01, "Answers and the order of checks": "The first that applies decides". Within one check the rules stand by the byte they look at.
 -- The published codes of 02, A1, have the same checks in the same order. Where a table goes by operation, those of 1994 stand first.
--- A rule is: 01's check, where it is seen, whether it applies, the answer. `room` is the receive room's length. Assumes nothing.
+-- A rule is: 01's check, where it is seen, whether it applies, the answer. `room` is the receive room's length.
 use Prim.Native.Nat.{ℕ, _+_, _*_}
 use mathlib.Core.Bool.{Bool, true, false, not, _&&_, cond}
 use mathlib.Core.List.{List, [], _∷_, _++_}
@@ -8,10 +8,10 @@ use lib.Bits.{bitAnd}
 use lib.Dec.{ltb, eqb}
 use lib.ListN.{length, getD}
 use Rattle.octets.specs.Number.{be}
-use Rattle.rules.specs.declared.Found.{Found}
-use Rattle.rules.specs.declared.Found.the-variants.{At, Nothing}
+use Rattle.folds.specs.declared.Found.{Found}
+use Rattle.folds.specs.declared.Found.the-variants.{At, Nothing}
 use Rattle.rules.specs.Rule.{Rule, rule, first}
-use Rattle.rules.specs.Least.{index}
+use Rattle.folds.specs.Least.{index}
 use Rattle.geometry.specs.declared.Geometry.{Geometry}
 use Rattle.geometry.specs.Header.{geometryOf}
 use Rattle.drives.specs.Table.{driveOf, failed}

@@ -1,4 +1,4 @@
--- The published codes beside those of 1994 (02, A1): every other code says the operation that it said in 1994. Assumes nothing.
+-- The published codes beside those of 1994 (02, A1): every other code says the operation that it said in 1994.
 use Prim.Native.Nat.{ℕ}
 use mathlib.Core.Bool.{Bool, true, false, _&&_, cond, true≢false}
 use mathlib.Core.Path.{_≡_, refl, sym, ap, _∙_}

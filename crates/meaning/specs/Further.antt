@@ -1,5 +1,5 @@
 -- What C1 to C11 cannot tell, one command each: Mirror, Int Data, FFFFFFFFh, more sources than two, a source listed twice, nested refusals
--- but the failed secondary, whose state and whose address decide. Assumes nothing.
+-- but the failed secondary, whose state and whose address decide.
 use Prim.Native.Nat.{ℕ}
 use mathlib.Core.List.{List, [], _∷_, _++_}
 use Rattle.octets.specs.Put.{put}

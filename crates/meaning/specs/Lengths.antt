@@ -1,4 +1,4 @@
--- Where the blocks of an act lie, and how long its bytes are. Assumes nothing.
+-- Where the blocks of an act lie, and how long its bytes are.
 use Prim.Native.Nat.{ℕ, zero, suc, _+_, _*_, _≤_, _<_}
 use native.Mathlib.Omega.{arith}
 use mathlib.Core.Path.{_≡_, refl, sym, ap, _∙_}
@@ -9,8 +9,8 @@ use lib.ListN.{length, length-append}
 use Rattle.octets.specs.Part.{part, length-part}
 use Rattle.octets.specs.Xor.{_⊻_, length-xor-le}
 use Rattle.octets.specs.Operands.{Long, length-xorAll-some}
-use Rattle.rules.specs.Each.{each-append}
-use Rattle.rules.specs.Least.{index}
+use Rattle.folds.specs.Each.{each-append}
+use Rattle.folds.specs.Least.{index}
 use Rattle.geometry.specs.declared.Geometry.{Geometry}
 use Rattle.geometry.specs.Frame.{Framed}
 use Rattle.geometry.specs.Places.{Range, place-after-media, range-room, range-long}

@@ -1,4 +1,4 @@
--- The published codes of 02, A1, on the bench shelf: what each does, and what each check refuses. Assumes nothing.
+-- The published codes of 02, A1, on the bench shelf: what each does, and what each check refuses.
 use Prim.Native.Nat.{ℕ}
 use mathlib.Core.List.{List, [], _∷_, _++_}
 use lib.ListN.{replicate}

@@ -1,4 +1,4 @@
--- A row of a table of examples: calls on an image, the last a command, and what it answers and leaves. Assumes nothing.
+-- A row of a table of examples: calls on an image, the last a command, and what it answers and leaves.
 use Prim.Native.Nat.{ℕ}
 use mathlib.Core.List.{List, [], _∷_, _++_}
 use lib.ListN.{replicate}

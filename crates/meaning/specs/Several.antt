@@ -1,5 +1,4 @@
--- What C1 to C11 cannot tell, since they have one slot: here are several, and the newest result is not always in the lowest one. Assumes
--- nothing.
+-- What C1 to C11 cannot tell, since they have one slot: here are several, and the newest result is not always in the lowest one.
 use Prim.Native.Nat.{ℕ}
 use mathlib.Core.List.{List, [], _∷_, _++_}
 use lib.ListN.{replicate}

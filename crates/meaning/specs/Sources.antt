@@ -1,11 +1,11 @@
--- The source entries of a parameter list, against the image (01, checks 7 and 10). Assumes nothing.
+-- The source entries of a parameter list, against the image (01, checks 7 and 10).
 use Prim.Native.Nat.{ℕ, zero, suc, _+_}
 use mathlib.Core.List.{List}
 use mathlib.Core.Bool.{Bool, false, cond}
 use lib.Dec.{ltb, eqb}
-use Rattle.rules.specs.declared.Found.{Found}
-use Rattle.rules.specs.declared.Found.the-variants.{At, Nothing}
-use Rattle.rules.specs.Least.{leastBelow}
+use Rattle.folds.specs.declared.Found.{Found}
+use Rattle.folds.specs.declared.Found.the-variants.{At, Nothing}
+use Rattle.folds.specs.Least.{leastBelow}
 use Rattle.geometry.specs.declared.Geometry.{Geometry}
 use Rattle.drives.specs.Table.{driveOf, failed}
 use Rattle.command.specs.Command.{sourceOf}

@@ -1,12 +1,12 @@
 -- What a step, a reset and a marking mean: the decision, and then what is left of the image and of the receive room. A refusal leaves
--- both alone ("No refusal changes image or receive room."). Assumes nothing.
+-- both alone ("No refusal changes image or receive room.").
 use Prim.Native.Nat.{ℕ}
 use mathlib.Core.List.{List, [], _∷_, _++_}
 use lib.Dec.{ltb}
 use lib.ListN.{length}
 use Rattle.octets.specs.Put.{put}
 use Rattle.rules.specs.Rule.{rule, first}
-use Rattle.rules.specs.Least.{index}
+use Rattle.folds.specs.Least.{index}
 use Rattle.geometry.specs.Header.{geometryOf}
 use Rattle.drives.specs.Table.{driveOf, marked}
 use Rattle.slots.specs.Change.{dropped}

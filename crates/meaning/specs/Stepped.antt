@@ -1,4 +1,4 @@
--- What a call leaves, by name: the answer, the image, the receive room. Assumes nothing.
+-- What a call leaves, by name: the answer, the image, the receive room.
 use mathlib.Core.Path.{_≡_, sym, ap, _∙_}
 use mathlib.Core.List.{List}
 use Prim.Native.Nat.{ℕ}

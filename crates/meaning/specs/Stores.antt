@@ -1,4 +1,4 @@
--- What the stores of data come to, alone and before those of a result. Assumes nothing.
+-- What the stores of data come to, alone and before those of a result.
 use Prim.Native.Nat.{ℕ}
 use mathlib.Core.List.{List, [], _∷_, _++_, append-nil}
 use mathlib.Core.Path.{_≡_, refl, sym, ap, _∙_}

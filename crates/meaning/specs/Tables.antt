@@ -1,4 +1,4 @@
--- The tables of examples hold, by computation. Assumes nothing.
+-- The tables of examples hold, by computation.
 use mathlib.Core.Path.{_≡_, refl}
 use mathlib.Core.List.{List, _++_, map}
 use Rattle.octets.specs.Part.{part}
@@ -6,10 +6,10 @@ use Rattle.octets.specs.Put.{put}
 use Rattle.octets.specs.Xor.{_⊻_}
 use Rattle.octets.specs.Operands.{xorAll}
 use Rattle.octets.specs.Number.{num, toBe}
-use Rattle.rules.specs.Every.{every}
-use Rattle.rules.specs.All.{allBelow}
-use Rattle.rules.specs.Count.{countBelow}
-use Rattle.rules.specs.Least.{leastBelow}
+use Rattle.folds.specs.Every.{every}
+use Rattle.folds.specs.All.{allBelow}
+use Rattle.folds.specs.Count.{countBelow}
+use Rattle.folds.specs.Least.{leastBelow}
 use Rattle.geometry.specs.Header.{rangesOk, offsetsOk, framedOk, slotAt, place}
 use Rattle.drives.specs.Table.{statesOk, newAddress, addressesOk, tableOk, driveOf, marked}
 use Rattle.slots.specs.Record.{slotOf, bytesOf}

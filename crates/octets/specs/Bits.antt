@@ -1,4 +1,4 @@
--- The kit's `bitXor` is associative: its digits are, and a number is its digits. Assumes nothing.
+-- The kit's `bitXor` is associative: its digits are, and a number is its digits.
 use mathlib.Core.Path.{_≡_, refl, sym, ap, ap₂, _∙_}
 use Prim.Native.Nat.{ℕ, zero, suc, _+_, _*_, _/_, _%_, _<_}
 use native.Mathlib.Nat.{le-of-suc-le-suc, not-suc-le-zero, mod-lt, zero-lt-suc}

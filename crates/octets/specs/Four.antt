@@ -1,4 +1,4 @@
--- The four bytes that write a number, by value. Assumes nothing.
+-- The four bytes that write a number, by value.
 use mathlib.Core.Path.{_≡_, sym, ap, _∙_}
 use mathlib.Core.List.{List, [], _∷_}
 use Prim.Native.Nat.{ℕ, _/_, _%_}

@@ -1,4 +1,4 @@
--- Big-endian numbers in a list of bytes. Assumes nothing.
+-- Big-endian numbers in a list of bytes.
 use mathlib.Core.Path.{_≡_, refl, sym, ap, ap₂, _∙_}
 use mathlib.Core.Logic.{_⊎_}
 use Prim.Native.Nat.{ℕ, zero, suc, _+_, _*_, _/_, _%_, _^_, _≤_, _<_}

@@ -1,4 +1,4 @@
--- Lists whose elements are bytes. A slice of `u8` is one; a list of numbers need not be. Assumes nothing.
+-- Lists whose elements are bytes. A slice of `u8` is one; a list of numbers need not be.
 use mathlib.Core.Path.{_≡_}
 use mathlib.Core.Bool.{true, and-eq-true-iff}
 use mathlib.Core.List.{List, [], _∷_}

@@ -1,4 +1,4 @@
--- The XOR of a list of operands. Assumes nothing.
+-- The XOR of a list of operands.
 use mathlib.Core.Path.{_≡_, refl, sym, ap, ap₂, _∙_}
 use Prim.Native.Nat.{ℕ, suc, _≤_, _<_}
 use native.Mathlib.Nat.{not-suc-le-zero}
@@ -6,7 +6,7 @@ use native.Mathlib.Omega.{arith}
 use mathlib.Core.List.{List, [], _∷_, _++_, map, List·Permᴰ, List·Permᴰ·nil, List·Permᴰ·cons, List·Permᴰ·swap, List·Permᴰ·trans}
 use lib.Bits.{bitXor}
 use lib.ListN.{length, getD, set, take}
-use Rattle.rules.specs.Each.{EachIs}
+use Rattle.folds.specs.Each.{EachIs}
 use Rattle.octets.specs.Part.{part, part-nil}
 use Rattle.octets.specs.Xor.{_⊻_, nil-xor, xor-nil, getD-xor, length-xor, length-xor-le, xor-commutes, xor-regroups, part-xor, xor-more}
 

@@ -1,4 +1,4 @@
--- A part of a list of bytes, and its laws. Assumes nothing.
+-- A part of a list of bytes, and its laws.
 use mathlib.Core.Path.{_≡_, refl, sym, ap, _∙_}
 use mathlib.Core.Logic.{_⊎_}
 use Prim.Native.Nat.{ℕ, zero, suc, _+_, _-_, _≤_, _<_}

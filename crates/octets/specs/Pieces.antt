@@ -1,4 +1,4 @@
--- Bytes written piece by piece, and compared block by block. Assumes nothing.
+-- Bytes written piece by piece, and compared block by block.
 use mathlib.Core.Path.{_≡_, refl, sym, ap, ap₂, _∙_}
 use mathlib.Core.Bool.{Bool, true, false}
 use mathlib.Core.Logic.{inl, inr, ⊎-elim}

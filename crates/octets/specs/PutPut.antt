@@ -1,4 +1,4 @@
--- A part of what was written, and one write upon another. Assumes nothing.
+-- A part of what was written, and one write upon another.
 use mathlib.Core.Path.{_≡_, refl, sym, ap, _∙_}
 use mathlib.Core.Logic.{_⊎_, ⊎-elim}
 use Prim.Native.Nat.{ℕ, zero, suc, _+_, _-_, _≤_, _<_, zero-le}

@@ -1,5 +1,5 @@
 -- The XOR of two lists of bytes. The shorter counts as filled up with zeros, so that every law but those on zeros holds with no
--- condition on lengths. Assumes nothing.
+-- condition on lengths.
 use mathlib.Core.Path.{_≡_, refl, sym, ap, ap₂, _∙_}
 use Prim.Native.Nat.{ℕ, zero, suc, _≤_, _<_, max}
 use native.Mathlib.Nat.{le-of-suc-le-suc, not-suc-le-zero, max-zero, zero-max, suc-max-suc}

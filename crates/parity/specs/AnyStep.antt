@@ -1,4 +1,4 @@
--- Demand 3 as a property of any step. Assumes nothing.
+-- Demand 3 as a property of any step.
 use Prim.Native.Nat.{ℕ, _+_, _*_, _≤_, _<_}
 use mathlib.Core.Bool.{true, false}
 use mathlib.Core.Path.{_≡_}

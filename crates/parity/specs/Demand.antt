@@ -1,4 +1,4 @@
--- Demand 3: the sums of the rows after any run of calls, and that a drive's blocks come back. Assumes nothing.
+-- Demand 3: the sums of the rows after any run of calls, and that a drive's blocks come back.
 use Prim.Native.Nat.{ℕ, _+_, _≤_, _<_}
 use native.Mathlib.Omega.{arith}
 use mathlib.Core.Path.{_≡_, refl, sym, ap, ap₂, subst, fun-ext, _∙_}
@@ -27,11 +27,11 @@ use Rattle.meaning.specs.declared.Decision.{Decision}
 use Rattle.meaning.specs.declared.Decision.the-variants.{Go}
 use Rattle.meaning.specs.Step.{decided, stepImage, resetImage}
 use Rattle.meaning.specs.Calls.{Call, command, reset, marking, afterCall, afterCalls}
-use Rattle.licence.specs.Granted.{allowed-at}
-use Rattle.demands.specs.Leaves.{resultIn}
-use Rattle.demands.specs.Step.{step-shelf}
-use Rattle.demands.specs.Calls.{reset-shelf, reset-front, mark-shelf, mark-address}
-use Rattle.demands.specs.Retained.{newest-handed}
+use Rattle.grants.specs.Granted.{allowed-at}
+use Rattle.demands_one_two.specs.Leaves.{resultIn}
+use Rattle.demands_one_two.specs.Step.{step-shelf}
+use Rattle.demands_one_two.specs.Calls.{reset-shelf, reset-front, mark-shelf, mark-address}
+use Rattle.demands_one_two.specs.Retained.{newest-handed}
 use Rattle.callers.specs.Next.{step-front}
 use Rattle.parity.specs.Ledger.{Read, Line, line, noted, notedBy, notedCall, FairCall, ledgerTo, FairTo, ledger-after, fair-front, ledger, Fair}
 use Rattle.parity.specs.Owed.{owed, owed-none, owed-nothing, length-owed}

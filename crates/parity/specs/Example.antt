@@ -1,4 +1,4 @@
--- The bench shelf of 01: a run that pays what it owes, a reset that leaves a row open for good, and a REBUILD after each. Assumes nothing.
+-- The bench shelf of 01: a run that pays what it owes, a reset that leaves a row open for good, and a REBUILD after each.
 use Prim.Native.Nat.{ℕ, zero, suc}
 use native.Mathlib.Omega.{arith}
 use mathlib.Core.Bool.{true, false, true≢false}
@@ -13,12 +13,12 @@ use Rattle.octets.specs.Octets.{small-octets}
 use Rattle.octets.specs.Xor.{_⊻_}
 use Rattle.octets.specs.Operands.{xorAll}
 use Rattle.octets.specs.Number.{num, toBe}
-use Rattle.rules.specs.Every.{every}
-use Rattle.rules.specs.All.{allBelow}
-use Rattle.rules.specs.Each.{EachIs, each-mem}
-use Rattle.rules.specs.Same.{sameList}
-use Rattle.rules.specs.Count.{countBelow}
-use Rattle.rules.specs.Least.{leastBelow}
+use Rattle.folds.specs.Every.{every}
+use Rattle.folds.specs.All.{allBelow}
+use Rattle.folds.specs.Each.{EachIs, each-mem}
+use Rattle.folds.specs.Same.{sameList}
+use Rattle.folds.specs.Count.{countBelow}
+use Rattle.folds.specs.Least.{leastBelow}
 use Rattle.geometry.specs.Header.{rangesOk, offsetsOk, framedOk, slotAt, place}
 use Rattle.drives.specs.Table.{statesOk, newAddress, addressesOk, tableOk, driveOf, marked}
 use Rattle.slots.specs.Record.{slotOf, bytesOf}

@@ -1,13 +1,13 @@
 -- The ledger of a run: every result that a command left, newest first, and what became of it; the codes of 01 and of 02, A1, keep one
--- ledger. Assumes nothing.
+-- ledger.
 use Prim.Native.Nat.{ℕ}
 use mathlib.Core.Bool.{Bool, true, false, cond}
 use mathlib.Core.List.{List, [], _∷_, _++_, List·Memᴰ}
 use mathlib.Core.Path.{_≡_, refl}
 use lib.Dec.{eqb}
 use Rattle.octets.specs.Xor.{_⊻_}
-use Rattle.rules.specs.Every.{every}
-use Rattle.rules.specs.Same.{sameList}
+use Rattle.folds.specs.Every.{every}
+use Rattle.folds.specs.Same.{sameList}
 use Rattle.rules.specs.Rule.{first}
 use Rattle.geometry.specs.declared.Geometry.{Geometry}
 use Rattle.geometry.specs.Header.{geometryOf}
@@ -22,7 +22,7 @@ use Rattle.meaning.specs.Acts.{blocksOf, resultOf, gathered}
 use Rattle.meaning.specs.Checks.{calls}
 use Rattle.meaning.specs.Step.{decided, untouched, target}
 use Rattle.meaning.specs.Calls.{Call, command, reset, marking, afterCall, runTo}
-use Rattle.demands.specs.Leaves.{resultIn}
+use Rattle.demands_one_two.specs.Leaves.{resultIn}
 
 -- it stands in a slot; XDREAD has read it, or the XDWRITEREAD that left it; a reset has dropped it; XPWRITE has carried it over
 pub data Fate : Type 0 where

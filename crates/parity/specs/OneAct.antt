@@ -1,5 +1,5 @@
 -- What one act does: the unread lines stay the retained results, and a row's sum stays what it was but for what is owed.
--- Assumes nothing.
+--
 use Prim.Native.Nat.{ℕ, _*_, _≤_, _<_}
 use native.Mathlib.Omega.{arith}
 use mathlib.Core.Bool.{Bool, true, false, cond, and-true}
@@ -34,8 +34,8 @@ use Rattle.meaning.specs.Acts.{spanAt, blocksOf, leaves}
 use Rattle.meaning.specs.Stores.{stored-alone}
 use Rattle.meaning.specs.Allowed.{Blocks, Filled, Allowed}
 use Rattle.meaning.specs.Lengths.{span-after-media, length-blocks}
-use Rattle.demands.specs.Beside.{Beside, front-beside, retain-beside, leaves-beside}
-use Rattle.demands.specs.Retained.{afterwards, results-after}
+use Rattle.demands_one_two.specs.Beside.{Beside, front-beside, retain-beside, leaves-beside}
+use Rattle.demands_one_two.specs.Retained.{afterwards, results-after}
 use Rattle.parity.specs.Ledger.{Unread, Line, line, noted, Carries, FairAct}
 use Rattle.parity.specs.Owed.{isOwed, inRow, owed, owed-hit, owed-miss, owed-read, owed-carried}
 use Rattle.parity.specs.Waiting.{waiting, waiting-hit, waiting-miss, waiting-read, waiting-carried}

@@ -1,4 +1,4 @@
--- What one call does: the unread lines stay the retained results, and a row's sum stays what it was but for what is owed. Assumes nothing.
+-- What one call does: the unread lines stay the retained results, and a row's sum stays what it was but for what is owed.
 use Prim.Native.Nat.{ℕ, _*_, _<_}
 use native.Mathlib.Nat.{le-refl}
 use native.Mathlib.Omega.{arith}
@@ -32,7 +32,7 @@ use Rattle.meaning.specs.Allowed.{Allowed}
 use Rattle.meaning.specs.Checks.{calls}
 use Rattle.meaning.specs.Calls.{reset}
 use Rattle.meaning.specs.Step.{imageAfter, untouched, target, resetImage, markCalls, markImage}
-use Rattle.demands.specs.Calls.{target-in}
+use Rattle.demands_one_two.specs.Calls.{target-in}
 use Rattle.parity.specs.Ledger.{Dropped, Line, become, onEach, waitsOn, noted, notedBy, notedCall, FairBy}
 use Rattle.parity.specs.Owed.{owed, owed-dropped}
 use Rattle.parity.specs.Waiting.{waiting, waiting-dropped}

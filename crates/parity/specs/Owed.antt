@@ -1,4 +1,4 @@
--- What is owed in a row, and how it changes with the ledger. Assumes nothing.
+-- What is owed in a row, and how it changes with the ledger.
 use Prim.Native.Nat.{ℕ, _≤_}
 use native.Mathlib.Omega.{arith}
 use mathlib.Core.Bool.{Bool, true, false, not, _&&_, cond, true≢false, and-false}
@@ -9,10 +9,10 @@ use lib.ListN.{length}
 use borrow.Author.Tests.{eq-eqb, eqb-true}
 use Rattle.octets.specs.Xor.{_⊻_, nil-xor, length-xor, xor-commutes, xor-regroups}
 use Rattle.octets.specs.Operands.{xorAll}
-use Rattle.rules.specs.Cases.{either}
-use Rattle.rules.specs.Every.{holds, every-of}
-use Rattle.rules.specs.Each.{EachIs, each-mem}
-use Rattle.rules.specs.Same.{sameList, same-list, same-self}
+use Rattle.folds.specs.Cases.{either}
+use Rattle.folds.specs.Every.{holds, every-of}
+use Rattle.folds.specs.Each.{EachIs, each-mem}
+use Rattle.folds.specs.Same.{sameList, same-list, same-self}
 use Rattle.geometry.specs.declared.Geometry.{Geometry}
 use Rattle.results.specs.Lists.{keeping, keep-hit, keep-miss}
 use Rattle.sums.specs.Share.{share, length-share}

@@ -1,5 +1,5 @@
 -- The bench shelf with the published codes of 02, A1: a run that pays what it owes, mixed with a code of 01, and a REBUILD after it; then
--- a result of XDWRITEREAD that is owed until it is carried, once. Assumes nothing.
+-- a result of XDWRITEREAD that is owed until it is carried, once.
 use Prim.Native.Nat.{ℕ}
 use mathlib.Core.Bool.{true, false}
 use mathlib.Core.Path.{_≡_, refl, sym, subst}
@@ -10,11 +10,11 @@ use Rattle.octets.specs.Octets.{small-octets}
 use Rattle.octets.specs.Xor.{_⊻_}
 use Rattle.octets.specs.Operands.{xorAll}
 use Rattle.octets.specs.Number.{num, toBe}
-use Rattle.rules.specs.Every.{every}
-use Rattle.rules.specs.All.{allBelow}
-use Rattle.rules.specs.Same.{sameList}
-use Rattle.rules.specs.Count.{countBelow}
-use Rattle.rules.specs.Least.{leastBelow}
+use Rattle.folds.specs.Every.{every}
+use Rattle.folds.specs.All.{allBelow}
+use Rattle.folds.specs.Same.{sameList}
+use Rattle.folds.specs.Count.{countBelow}
+use Rattle.folds.specs.Least.{leastBelow}
 use Rattle.geometry.specs.Header.{rangesOk, offsetsOk, framedOk, slotAt, place}
 use Rattle.drives.specs.Table.{statesOk, newAddress, addressesOk, tableOk, driveOf}
 use Rattle.slots.specs.Record.{slotOf, bytesOf}

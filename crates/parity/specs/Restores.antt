@@ -1,5 +1,5 @@
 -- Where the sums are zero, "one drive's blocks there may be overwritten with anything: REBUILD of them from every other drive once and
--- nothing else, at the same blocks, all drives present, brings the old bytes back." Assumes nothing.
+-- nothing else, at the same blocks, all drives present, brings the old bytes back."
 use Prim.Native.Nat.{ℕ, suc, _*_, _<_}
 use native.Mathlib.Omega.{arith}
 use mathlib.Core.Bool.{false}
@@ -10,10 +10,10 @@ use lib.ListN.{length, length-map}
 use Rattle.octets.specs.Put.{put}
 use Rattle.octets.specs.PutPut.{put-put, put-part}
 use Rattle.octets.specs.Operands.{xorAll}
-use Rattle.rules.specs.declared.Found.{Found}
-use Rattle.rules.specs.declared.Found.the-variants.{At}
-use Rattle.rules.specs.Each.{EachIs, each-mem, each-map, perm-length, perm-each}
-use Rattle.rules.specs.Least.{index}
+use Rattle.folds.specs.declared.Found.{Found}
+use Rattle.folds.specs.declared.Found.the-variants.{At}
+use Rattle.folds.specs.Each.{EachIs, each-mem, each-map, perm-length, perm-each}
+use Rattle.folds.specs.Least.{index}
 use Rattle.geometry.specs.declared.Geometry.{Geometry}
 use Rattle.geometry.specs.Header.{place, blocksAt}
 use Rattle.geometry.specs.Frame.{Framed}

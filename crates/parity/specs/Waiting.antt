@@ -1,12 +1,12 @@
--- The unread lines of the ledger, and how they change with it. Assumes nothing.
+-- The unread lines of the ledger, and how they change with it.
 use Prim.Native.Nat.{ℕ}
 use mathlib.Core.Bool.{Bool, true, false, not, true≢false}
 use mathlib.Core.Path.{_≡_, refl, sym, ap, _∙_}
 use mathlib.Core.Logic.{⊎-elim}
 use mathlib.Core.List.{List, [], _∷_, map}
 use lib.Dec.{eqb}
-use Rattle.rules.specs.Cases.{either}
-use Rattle.rules.specs.Every.{holds, every-of, fails}
+use Rattle.folds.specs.Cases.{either}
+use Rattle.folds.specs.Every.{holds, every-of, fails}
 use Rattle.results.specs.Lists.{keeping, keep-none, keep-hit, keep-miss}
 use Rattle.results.specs.First.{sansFirst, sans-hit, sans-miss}
 use Rattle.results.specs.Results.{Result}

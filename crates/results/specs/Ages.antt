@@ -1,13 +1,13 @@
 -- The used slots by age, newest first.
--- Assumes nothing.
+--
 use Prim.Native.Nat.{ℕ, zero, suc}
 use mathlib.Core.Path.{_≡_}
 use mathlib.Core.Bool.{not}
 use mathlib.Core.List.{List, [], _∷_}
 use lib.Dec.{eqb}
-use Rattle.rules.specs.Every.{every}
-use Rattle.rules.specs.Count.{countBelow}
-use Rattle.rules.specs.Least.{index, leastBelow}
+use Rattle.folds.specs.Every.{every}
+use Rattle.folds.specs.Count.{countBelow}
+use Rattle.folds.specs.Least.{index, leastBelow}
 use Rattle.geometry.specs.declared.Geometry.{Geometry}
 use Rattle.slots.specs.declared.Slot.{Slot}
 use Rattle.slots.specs.Record.{zeroSlot}

@@ -1,5 +1,5 @@
 -- What the search over the slots finds: of those wanted, one of the highest rank.
--- Assumes nothing.
+--
 use Prim.Native.Nat.{ℕ, zero, suc, _≤_, _<_}
 use native.Mathlib.Nat.{not-suc-le-zero}
 use native.Mathlib.Omega.{arith}
@@ -9,10 +9,10 @@ use mathlib.Core.Logic.{⊎-elim}
 use mathlib.Core.List.{List, [], _∷_}
 use lib.Dec.{ltb}
 use borrow.Author.Tests.{ltb-true, lt-ltb}
-use Rattle.rules.specs.declared.Found.the-variants.{At, Nothing}
-use Rattle.rules.specs.Cases.{either, on-test, order, last-or-below}
-use Rattle.rules.specs.Every.{every, holds, every-of}
-use Rattle.rules.specs.Least.{at-nothing, at-same}
+use Rattle.folds.specs.declared.Found.the-variants.{At, Nothing}
+use Rattle.folds.specs.Cases.{either, on-test, order, last-or-below}
+use Rattle.folds.specs.Every.{every, holds, every-of}
+use Rattle.folds.specs.Least.{at-nothing, at-same}
 use Rattle.geometry.specs.declared.Geometry.{Geometry}
 use Rattle.slots.specs.declared.Best.{Best}
 use Rattle.slots.specs.Record.{slotOf}

@@ -1,6 +1,6 @@
 -- All results of a drive go: the slots stay right, the results of the other drives stay in order, and no byte outside the slots' records
 -- changes.
--- Assumes nothing.
+--
 use Prim.Native.Nat.{ℕ, zero, suc, _≤_, _<_}
 use native.Mathlib.Nat.{not-suc-le-zero}
 use native.Mathlib.Omega.{arith}
@@ -12,8 +12,8 @@ use lib.Dec.{eqb}
 use lib.ListN.{length}
 use borrow.Author.Tests.{eqb-true, eq-eqb, ne-eqb, not-false}
 use Rattle.octets.specs.Part.{part}
-use Rattle.rules.specs.Cases.{on-test, last-or-below}
-use Rattle.rules.specs.Every.{holds, every-of, fails}
+use Rattle.folds.specs.Cases.{on-test, last-or-below}
+use Rattle.folds.specs.Every.{holds, every-of, fails}
 use Rattle.geometry.specs.declared.Geometry.{Geometry}
 use Rattle.geometry.specs.Frame.{Framed, framed-same}
 use Rattle.geometry.specs.Outside.{Outside}

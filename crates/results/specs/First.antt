@@ -1,12 +1,12 @@
 -- The first element of a list that passes a test, and the rest of the list.
--- Assumes nothing.
+--
 use mathlib.Core.Path.{_≡_, refl, sym, ap, _∙_}
 use mathlib.Core.Bool.{Bool, true, false, cond}
 use mathlib.Core.Logic.{⊎-elim}
 use mathlib.Core.List.{List, [], _∷_, map, List·Memᴰ, List·Memᴰ·head, List·Memᴰ·tail}
 use mathlib.Core.Option.{Option, some, none, Option·map, Option·some-injective, Option·none-ne-some}
 use lib.Dec.{leb}
-use Rattle.rules.specs.Cases.{either}
+use Rattle.folds.specs.Cases.{either}
 
 module _ {A : Type 0} where
   unfoldable pub firstOf : (A → Bool) → List A → Option A

@@ -1,14 +1,14 @@
 -- "Something to retain and no empty slot": as many results are retained as there are slots.
--- Assumes nothing.
+--
 use Prim.Native.Nat.{ℕ}
 use mathlib.Core.Bool.{true, not}
 use mathlib.Core.Path.{_≡_, _∙_}
 use mathlib.Core.List.{List}
 use lib.ListN.{length, length-map}
 use borrow.Author.Tests.{not-false}
-use Rattle.rules.specs.declared.Found.the-variants.{Nothing}
-use Rattle.rules.specs.Count.{count-all}
-use Rattle.rules.specs.Least.{least-nothing}
+use Rattle.folds.specs.declared.Found.the-variants.{Nothing}
+use Rattle.folds.specs.Count.{count-all}
+use Rattle.folds.specs.Least.{least-nothing}
 use Rattle.geometry.specs.declared.Geometry.{Geometry}
 use Rattle.slots.specs.Record.{slotOf, isUsed}
 use Rattle.slots.specs.Slots.{usedCount, slotsOk}

@@ -1,5 +1,5 @@
 -- A used slot is emptied and the higher ranks fall by one: the slots stay right, and the others keep their order.
--- Assumes nothing.
+--
 use Prim.Native.Nat.{ℕ, zero, suc, _+_, _≤_, _<_}
 use native.Mathlib.Numerals.{add-one}
 use native.Mathlib.Omega.{arith}
@@ -8,8 +8,8 @@ use mathlib.Core.Path.{_≡_, sym, ap, _∙_}
 use mathlib.Core.Logic.{⊎-elim}
 use mathlib.Core.List.{List, _∷_}
 use borrow.Author.Tests.{eq-eqb, ne-eqb}
-use Rattle.rules.specs.Cases.{either, same, order, agree}
-use Rattle.rules.specs.Count.{count-ext, count-gone}
+use Rattle.folds.specs.Cases.{either, same, order, agree}
+use Rattle.folds.specs.Count.{count-ext, count-gone}
 use Rattle.geometry.specs.declared.Geometry.{Geometry}
 use Rattle.slots.specs.declared.Slot.{Slot}
 use Rattle.slots.specs.Record.{isUsed, zeroSlot}

@@ -1,5 +1,5 @@
 -- An image whose bytes in the slots are as before has the same results.
--- Assumes nothing.
+--
 use Prim.Native.Nat.{ℕ, suc}
 use mathlib.Core.Bool.{true}
 use mathlib.Core.Path.{_≡_, ap, _∙_}

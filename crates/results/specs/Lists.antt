@@ -1,9 +1,9 @@
 -- The elements of a list that pass a test.
--- Assumes nothing.
+--
 use mathlib.Core.Path.{_≡_, refl, sym, ap, ap₂, _∙_}
 use mathlib.Core.Bool.{Bool, true, false, cond}
 use mathlib.Core.List.{List, [], _∷_, map, List·Memᴰ, List·Memᴰ·head, List·Memᴰ·tail}
-use Rattle.rules.specs.Cases.{on-test}
+use Rattle.folds.specs.Cases.{on-test}
 
 module _ {A : Type 0} where
   -- those that pass, in order

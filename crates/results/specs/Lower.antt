@@ -1,5 +1,5 @@
 -- "higher ranks fall by one": a rank, and a slot's record.
--- Assumes nothing.
+--
 use Prim.Native.Nat.{ℕ, suc, _+_, _-_, _≤_, _<_}
 use native.Mathlib.Omega.{arith}
 use mathlib.Core.Bool.{cond}
@@ -7,7 +7,7 @@ use mathlib.Core.Path.{_≡_}
 use mathlib.Core.Logic.{⊎-elim}
 use lib.Dec.{ltb}
 use borrow.Author.Tests.{lt-ltb, le-ltb}
-use Rattle.rules.specs.Cases.{order}
+use Rattle.folds.specs.Cases.{order}
 use Rattle.slots.specs.declared.Slot.{Slot}
 use Rattle.slots.specs.RecordLaws.{ranked}
 

@@ -1,5 +1,5 @@
 -- What the bytes become where higher ranks fall by one.
--- Assumes nothing.
+--
 use Prim.Native.Nat.{ℕ, zero, suc, _+_, _-_, _^_, _≤_, _<_}
 use native.Mathlib.Nat.{not-suc-le-zero}
 use native.Mathlib.Omega.{arith}
@@ -12,7 +12,7 @@ use Rattle.octets.specs.Part.{part}
 use Rattle.octets.specs.Put.{put, length-put}
 use Rattle.octets.specs.PutPut.{part-put-apart}
 use Rattle.octets.specs.Number.{toBe, length-toBe}
-use Rattle.rules.specs.Cases.{either, on-test, last-or-below}
+use Rattle.folds.specs.Cases.{either, on-test, last-or-below}
 use Rattle.geometry.specs.declared.Geometry.{Geometry}
 use Rattle.geometry.specs.Header.{slotAt}
 use Rattle.geometry.specs.Frame.{Framed}

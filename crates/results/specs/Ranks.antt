@@ -1,13 +1,13 @@
 -- The slot of a rank, where the slots are right, and the list by age that these make.
--- Assumes nothing.
+--
 use Prim.Native.Nat.{ℕ, zero, suc, _+_, _<_}
 use native.Mathlib.Numerals.{add-one}
 use native.Mathlib.Omega.{arith}
 use mathlib.Core.Bool.{true, false}
 use mathlib.Core.Path.{_≡_, refl, sym, ap, ap₂, _∙_}
 use mathlib.Core.List.{List, _∷_}
-use Rattle.rules.specs.Count.{count-some}
-use Rattle.rules.specs.Least.{index, least-only, least-ext}
+use Rattle.folds.specs.Count.{count-some}
+use Rattle.folds.specs.Least.{index, least-only, least-ext}
 use Rattle.geometry.specs.declared.Geometry.{Geometry}
 use Rattle.slots.specs.declared.Slot.{Slot}
 use Rattle.slots.specs.Record.{isUsed}

@@ -1,5 +1,5 @@
 -- A result that goes: the slots stay right, it alone is taken out of the results, and no byte outside the slots' records changes.
--- Assumes nothing.
+--
 use Prim.Native.Nat.{ℕ, _*_, _^_, _<_}
 use native.Mathlib.Omega.{arith}
 use mathlib.Core.Bool.{true, not}
@@ -12,8 +12,8 @@ use borrow.Author.Tests.{not-true, eqb-false}
 use Rattle.octets.specs.Part.{part}
 use Rattle.octets.specs.Put.{put, length-put}
 use Rattle.octets.specs.PutPut.{part-put-apart}
-use Rattle.rules.specs.Cases.{either, same}
-use Rattle.rules.specs.Count.{count-le}
+use Rattle.folds.specs.Cases.{either, same}
+use Rattle.folds.specs.Count.{count-le}
 use Rattle.geometry.specs.declared.Geometry.{Geometry}
 use Rattle.geometry.specs.Header.{slotAt, dataAt}
 use Rattle.geometry.specs.Frame.{Framed, framed-same}

@@ -1,5 +1,5 @@
 -- A result that is retained: the slots stay right, and it is the newest of the results.
--- Assumes nothing.
+--
 use Prim.Native.Nat.{ℕ, _+_, _*_, _≤_, _<_}
 use native.Mathlib.Omega.{arith}
 use mathlib.Core.Bool.{true, true≢false}
@@ -10,9 +10,9 @@ use lib.ListN.{length, length-append}
 use Rattle.octets.specs.Part.{part, part-append-back}
 use Rattle.octets.specs.Put.{put, length-put}
 use Rattle.octets.specs.PutPut.{part-put-of, part-put-apart}
-use Rattle.rules.specs.declared.Found.{Found}
-use Rattle.rules.specs.declared.Found.the-variants.{At, Nothing}
-use Rattle.rules.specs.Count.{count-le}
+use Rattle.folds.specs.declared.Found.{Found}
+use Rattle.folds.specs.declared.Found.the-variants.{At, Nothing}
+use Rattle.folds.specs.Count.{count-le}
 use Rattle.geometry.specs.declared.Geometry.{Geometry}
 use Rattle.geometry.specs.Header.{slotAt, dataAt}
 use Rattle.geometry.specs.Frame.{Framed}

@@ -1,12 +1,12 @@
--- 01's bench shelf, before and "After C2, in full": the listing byte for byte. Assumes nothing.
+-- 01's bench shelf, before and "After C2, in full": the listing byte for byte.
 use mathlib.Core.Path.{_≡_, refl}
 use lib.ListN.{set}
 use Rattle.octets.specs.Part.{part}
 use Rattle.octets.specs.Xor.{_⊻_}
 use Rattle.octets.specs.Number.{num}
-use Rattle.rules.specs.Every.{every}
-use Rattle.rules.specs.All.{allBelow}
-use Rattle.rules.specs.Count.{countBelow}
+use Rattle.folds.specs.Every.{every}
+use Rattle.folds.specs.All.{allBelow}
+use Rattle.folds.specs.Count.{countBelow}
 use Rattle.geometry.specs.Header.{rangesOk, offsetsOk, framedOk, slotAt, place}
 use Rattle.drives.specs.Table.{statesOk, newAddress, addressesOk, tableOk}
 use Rattle.slots.specs.Record.{slotOf}

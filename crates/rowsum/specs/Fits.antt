@@ -1,4 +1,4 @@
--- The longest text that the row program prints. Assumes nothing.
+-- The longest text that the row program prints.
 use Prim.Native.Nat.{ℕ, zero, suc, _+_, _*_, _≤_, _<_, min}
 use native.Mathlib.Nat.{le-refl, mul-le-mul-right, mul-le-mul-left, mul-assoc, mul-comm, suc-mul}
 use native.Mathlib.Numerals.{add-one}
@@ -7,8 +7,8 @@ use mathlib.Core.List.{List}
 use mathlib.Core.Logic.{⊎-elim}
 use mathlib.Core.Path.{_≡_, refl, sym, ap, _∙_}
 use lib.ListN.{length, take}
-use Rattle.rules.specs.Cases.{either, order}
-use Rattle.rules.specs.Count.{count-le}
+use Rattle.folds.specs.Cases.{either, order}
+use Rattle.folds.specs.Count.{count-le}
 use Rattle.geometry.specs.declared.Geometry.{Geometry}
 use Rattle.geometry.specs.Header.{geometryOf}
 use Rattle.geometry.specs.Frame.{Framed}

@@ -1,4 +1,4 @@
--- A shelf's text, cut at its newlines, is the definition's lines, and as many are rows' as rows are open. Assumes nothing.
+-- A shelf's text, cut at its newlines, is the definition's lines, and as many are rows' as rows are open.
 use Prim.Native.Nat.{ℕ, zero, suc, _+_}
 use mathlib.Core.Bool.{true, cond}
 use mathlib.Core.List.{List, _++_}
@@ -6,9 +6,9 @@ use mathlib.Core.Logic.{⊎-elim}
 use mathlib.Core.Path.{_≡_, refl, ap, ap₂, _∙_}
 use lib.Dec.{lit≤}
 use lib.ListN.{length, length-append}
-use Rattle.rules.specs.Cases.{either}
-use Rattle.rules.specs.Each.{each-append}
-use Rattle.rules.specs.Count.{countBelow}
+use Rattle.folds.specs.Cases.{either}
+use Rattle.folds.specs.Each.{each-append}
+use Rattle.folds.specs.Count.{countBelow}
 use Rattle.geometry.specs.declared.Geometry.{Geometry}
 use Rattle.geometry.specs.Header.{geometryOf}
 use Rattle.image.specs.Valid.{validImage}

@@ -1,11 +1,11 @@
 -- The listing of row sums (01, "Bench shelf", end): "prints drives, blocks, block length and how many rows (a block on all drives, failed
--- ones too) have a non-zero sum, then each such row, ascending, with its sum in hex". Assumes nothing.
+-- ones too) have a non-zero sum, then each such row, ascending, with its sum in hex".
 use Prim.Native.Nat.{ℕ, zero, suc}
 use mathlib.Core.Bool.{cond}
 use mathlib.Core.List.{List, [], _∷_, _++_}
 use lib.Dec.{ltb}
 use lib.ListN.{length}
-use Rattle.rules.specs.Count.{countBelow}
+use Rattle.folds.specs.Count.{countBelow}
 use Rattle.geometry.specs.declared.Geometry.{Geometry}
 use Rattle.geometry.specs.Header.{geometryOf}
 use Rattle.image.specs.Valid.{validImage}

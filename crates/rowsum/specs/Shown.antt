@@ -1,4 +1,4 @@
--- What the text of a shelf shows: as many rows as its first line says, and a row exactly where its sum is not zero. Assumes nothing.
+-- What the text of a shelf shows: as many rows as its first line says, and a row exactly where its sum is not zero.
 use Prim.Native.Nat.{ℕ, zero, suc, _<_}
 use native.Mathlib.Nat.{not-suc-le-zero}
 use native.Mathlib.Omega.{arith}
@@ -11,9 +11,9 @@ use lib.Dec.{eqb, lit≤}
 use lib.ListN.{length, getD, replicate, length-replicate, getD-replicate}
 use lib.Seq.{ext-getD}
 use borrow.Author.Tests.{eqb-true, eq-eqb, not-false}
-use Rattle.rules.specs.All.{allBelow, all-at, all-intro}
-use Rattle.rules.specs.Cases.{either, last-or-below}
-use Rattle.rules.specs.Count.{countBelow}
+use Rattle.folds.specs.All.{allBelow, all-at, all-intro}
+use Rattle.folds.specs.Cases.{either, last-or-below}
+use Rattle.folds.specs.Count.{countBelow}
 use Rattle.geometry.specs.declared.Geometry.{Geometry}
 use Rattle.geometry.specs.Header.{geometryOf}
 use Rattle.geometry.specs.Frame.{Framed}

@@ -1,4 +1,4 @@
--- How a row's sum comes about, drive by drive, in a block of zeros. Assumes nothing.
+-- How a row's sum comes about, drive by drive, in a block of zeros.
 use Prim.Native.Nat.{ℕ, _+_}
 use native.Mathlib.Numerals.{add-one}
 use mathlib.Core.Bool.{not}
@@ -7,7 +7,7 @@ use mathlib.Core.Path.{_≡_, sym}
 use lib.Dec.{eqb}
 use lib.ListN.{length, getD}
 use Rattle.octets.specs.Xor.{_⊻_, xor-nil, xor-regroups}
-use Rattle.rules.specs.All.{allBelow}
+use Rattle.folds.specs.All.{allBelow}
 use Rattle.geometry.specs.declared.Geometry.{Geometry}
 use Rattle.sums.specs.Row.{added, summedTo, rowSum, isOpen}
 

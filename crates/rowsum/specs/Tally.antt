@@ -1,11 +1,11 @@
--- What is counted before the listing is written: the open rows, and the bytes of their lines. Assumes nothing.
+-- What is counted before the listing is written: the open rows, and the bytes of their lines.
 use Prim.Native.Nat.{ℕ, _+_, _*_, _≤_}
 use native.Mathlib.Omega.{arith}
 use mathlib.Core.Bool.{true, false}
 use mathlib.Core.List.{List, _++_}
 use mathlib.Core.Path.{_≡_, sym, ap, _∙_}
 use lib.ListN.{length}
-use Rattle.rules.specs.Count.{countBelow, count-none, count-hit, count-miss}
+use Rattle.folds.specs.Count.{countBelow, count-none, count-hit, count-miss}
 use Rattle.geometry.specs.declared.Geometry.{Geometry}
 use Rattle.sums.specs.Row.{isOpen}
 use Rattle.text.specs.Room.{Wrote, wrote-then}

@@ -1,4 +1,4 @@
--- How the lines come about, row by row, and how long they are. Assumes nothing.
+-- How the lines come about, row by row, and how long they are.
 use Prim.Native.Nat.{ℕ, zero, suc, _+_, _*_, _≤_, _<_}
 use native.Mathlib.Nat.{le-of-suc-le-suc, eq-or-lt-of-le}
 use native.Mathlib.Numerals.{add-one}

@@ -1,4 +1,4 @@
--- The text of an image that is a shelf, of one that is none, and of an input that is too long. Assumes nothing.
+-- The text of an image that is a shelf, of one that is none, and of an input that is too long.
 use Prim.Native.Nat.{ℕ, _<_, _≤_}
 use native.Mathlib.Omega.{arith}
 use mathlib.Core.Bool.{true, false}
@@ -7,7 +7,7 @@ use mathlib.Core.Logic.{⊎-elim}
 use mathlib.Core.Path.{_≡_}
 use lib.ListN.{length}
 use borrow.Author.Tests.{lt-ltb, le-ltb, le-leb}
-use Rattle.rules.specs.Cases.{either, order}
+use Rattle.folds.specs.Cases.{either, order}
 use Rattle.geometry.specs.Header.{geometryOf}
 use Rattle.image.specs.Valid.{validImage}
 use Rattle.text.specs.Ascii.{ascii}

@@ -5,7 +5,7 @@ ghost use mathlib.Core.Path.{_≡_};
 ghost use Prim.Native.Nat.{_+_, _-_, _<_, _≤_};
 ghost use lib.Dec.{eqb};
 ghost use lib.ListN.{length, getD};
-ghost use Rattle.rules.specs.All.{allBelow};
+ghost use Rattle.folds.specs.All.{allBelow};
 ghost use Rattle.geometry.specs.Frame.{InRange, Framed};
 ghost use Rattle.sums.specs.Row.{rowSum, isOpen};
 ghost use Rattle.rowsum.specs.Turns.{headLength, rowLength};

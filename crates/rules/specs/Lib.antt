@@ -1,10 +1,2 @@
-pub mod Cases
-pub mod Each
-pub mod Every
-pub mod All
-pub mod Same
-pub mod Count
-pub mod Least
 pub mod Rule
 pub mod Reason
-pub mod Tests

@@ -1,12 +1,12 @@
 -- "The first that applies decides": lists of rules, over any type of place, answer and decision.
--- Assumes nothing.
+--
 use Prim.Native.Nat.{ℕ, zero, suc, _<_}
 use native.Mathlib.Omega.{arith}
 use mathlib.Core.List.{List, [], _∷_, _++_}
 use mathlib.Core.Bool.{Bool, true, false, cond}
 use mathlib.Core.Path.{_≡_, refl, ap}
 use lib.ListN.{length, getD}
-use Rattle.rules.specs.Each.{EachIs}
+use Rattle.folds.specs.Each.{EachIs}
 
 -- a check: its number, the place where it is seen, whether it applies, what it then answers
 pub data Rule (P A : Type 0) : Type 0 where

@@ -1,7 +1,1 @@
-// "The first that applies decides", and tests over the numbers below n: definitions and laws.
-
-// What a search over numbers finds.
-pub enum Found {
-    At(usize),
-    Nothing,
-}
+// "The first that applies decides": lists of rules, which of them decides, and why.

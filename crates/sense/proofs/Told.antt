@@ -1,4 +1,4 @@
--- The arm of a `match` on an answer. Assumes nothing.
+-- The arm of a `match` on an answer.
 use mathlib.Core.Path.{_≡_, sym, ap, _∙_}
 use Rattle.sense.specs.declared.Answer.{Answer}
 

@@ -1,4 +1,4 @@
--- 01, "Answers and the order of checks": the number of each answer. Assumes nothing.
+-- 01, "Answers and the order of checks": the number of each answer.
 use Prim.Native.Nat.{ℕ, _+_}
 use Rattle.sense.specs.declared.Answer.{Answer}
 use Rattle.sense.specs.declared.Answer.the-variants.{Good, Busy, BadImage, NoTarget, BadCdb, WrongCount, ShortRoom, BadState, UnknownCode, TargetFailed, BadField, BadListLength, BadList, BadRange, NestedAddress, NestedFailed, NestedRange}

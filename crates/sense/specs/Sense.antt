@@ -1,4 +1,4 @@
--- 01: "Sense is handed back by value as 37 bytes with its length, zeros after and in every byte not named." Assumes nothing.
+-- 01: "Sense is handed back by value as 37 bytes with its length, zeros after and in every byte not named."
 use Prim.Native.Nat.{ℕ}
 use mathlib.Core.List.{List, [], _∷_, _++_}
 use lib.ListN.{replicate}

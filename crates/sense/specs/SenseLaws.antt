@@ -1,4 +1,4 @@
--- What the sense of every answer is. Assumes nothing.
+-- What the sense of every answer is.
 use mathlib.Core.Path.{_≡_, refl, ap₂, _∙_}
 use mathlib.Core.Bool.{true, false, cond}
 use mathlib.Core.List.{List, [], _∷_}

@@ -1,4 +1,4 @@
--- What a decision to go hands the code that acts. Assumes nothing.
+-- What a decision to go hands the code that acts.
 use mathlib.Core.Path.{_≡_, sym, subst}
 use mathlib.Core.List.{List}
 use Prim.Native.Nat.{ℕ}
@@ -12,8 +12,8 @@ use Rattle.meaning.specs.declared.Act.{Act}
 use Rattle.meaning.specs.declared.Decision.the-variants.{Go}
 use Rattle.meaning.specs.Allowed.{Allowed, Few}
 use Rattle.meaning.specs.Checks.{decideOf}
-use Rattle.licence.specs.Granted.{granted, allowed-at}
-use Rattle.licence.specs.Few.{few}
+use Rattle.grants.specs.Granted.{granted, allowed-at}
+use Rattle.grants.specs.Few.{few}
 
 pub licensed : (m : List ℕ) (a : ℕ) (c s : List ℕ) (r : ℕ) (act : Act) (x : Answer) (g : Geometry) → g ≡ geometryOf m → decideOf m a c s r ≡ Go act x → Octets s
     → Framed m g × Allowed m g s r act × Few act

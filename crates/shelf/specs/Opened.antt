@@ -1,10 +1,10 @@
--- A reset and a marking, as the code goes through their checks. Assumes nothing.
+-- A reset and a marking, as the code goes through their checks.
 use mathlib.Core.Path.{_≡_, sym, ap, _∙_}
 use mathlib.Core.List.{List, [], _∷_}
 use Prim.Native.Nat.{ℕ, _≤_, _<_}
 use lib.Dec.{ltb}
 use borrow.Author.Tests.{lt-ltb, le-ltb}
-use Rattle.rules.specs.declared.Found.the-variants.{At}
+use Rattle.folds.specs.declared.Found.the-variants.{At}
 use Rattle.rules.specs.Rule.{rule, first, first-append}
 use Rattle.geometry.specs.declared.Geometry.{Geometry}
 use Rattle.geometry.specs.Header.{geometryOf}

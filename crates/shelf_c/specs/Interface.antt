@@ -1,5 +1,5 @@
 -- The C call of a step (01, "What the shelf does"): "It lends a sense room too, whose first 37 bytes take the sense, the rest staying; a
--- shorter one is call 5 before all other checks, nothing moved." Assumes nothing.
+-- shorter one is call 5 before all other checks, nothing moved."
 use mathlib.Core.Path.{_≡_, ap, _∙_}
 use mathlib.Core.Bool.{Bool, true, false, cond}
 use mathlib.Core.List.{List}
@@ -9,7 +9,7 @@ use native.Mathlib.Omega.{arith}
 use lib.Dec.{ltb}
 use lib.ListN.{length}
 use borrow.Author.Tests.{lt-ltb, le-ltb}
-use Rattle.rules.specs.Cases.{either}
+use Rattle.folds.specs.Cases.{either}
 use Rattle.octets.specs.Put.{put}
 use Rattle.sense.specs.declared.Outcome.{Outcome}
 use Rattle.sense.specs.declared.Answer.the-variants.{ShortRoom}
@@ -19,9 +19,9 @@ use Rattle.meaning.specs.declared.Decision.{Decision}
 use Rattle.meaning.specs.declared.Decision.the-variants.{Stop, Go}
 use Rattle.meaning.specs.Step.{decided, outcomeAfter, stepImage, stepRoom, stepOutcome, resetAnswer, resetImage, markAnswer, markImage}
 use Rattle.meaning.specs.Stepped.{Stepped}
-use Rattle.demands.specs.Step.{refused-keeps}
-use Rattle.demands.specs.Calls.{reset-keeps, mark-keeps}
-use Rattle.demands.specs.Count.{count-small}
+use Rattle.demands_one_two.specs.Step.{refused-keeps}
+use Rattle.demands_one_two.specs.Calls.{reset-keeps, mark-keeps}
+use Rattle.demands_one_two.specs.Count.{count-small}
 
 -- the sense room n is too short
 abbrev pub short : List ℕ → Bool

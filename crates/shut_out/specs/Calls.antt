@@ -1,5 +1,4 @@
--- Wrong resets and markings, each by a call or two after which it has broken the contract of `shelf::reset` or `shelf::mark`. Assumes
--- nothing.
+-- Wrong resets and markings, each by a call or two after which it has broken the contract of `shelf::reset` or `shelf::mark`.
 use Prim.Native.Nat.{ℕ}
 use native.Mathlib.Omega.{arith}
 use mathlib.Core.List.{List}
@@ -8,10 +7,10 @@ use lib.ListN.{getD, set}
 use Rattle.octets.specs.Part.{part}
 use Rattle.octets.specs.Put.{put}
 use Rattle.octets.specs.Number.{num}
-use Rattle.rules.specs.Every.{every}
-use Rattle.rules.specs.All.{allBelow}
-use Rattle.rules.specs.Count.{countBelow}
-use Rattle.rules.specs.Least.{leastBelow}
+use Rattle.folds.specs.Every.{every}
+use Rattle.folds.specs.All.{allBelow}
+use Rattle.folds.specs.Count.{countBelow}
+use Rattle.folds.specs.Least.{leastBelow}
 use Rattle.geometry.specs.Header.{rangesOk, offsetsOk, framedOk, slotAt}
 use Rattle.drives.specs.Table.{statesOk, newAddress, addressesOk, tableOk, driveOf, marked}
 use Rattle.slots.specs.Record.{slotOf}

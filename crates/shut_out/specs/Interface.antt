@@ -1,4 +1,4 @@
--- The same wrong programs as C functions, each by the same calls, and one that takes a sense room that is too short. Assumes nothing.
+-- The same wrong programs as C functions, each by the same calls, and one that takes a sense room that is too short.
 use Prim.Native.Nat.{ℕ, _<_}
 use mathlib.Core.List.{List, [], _∷_, _++_}
 use mathlib.Core.Path.{_≡_, refl, sym, _∙_}

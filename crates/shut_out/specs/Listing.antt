@@ -1,4 +1,4 @@
--- Wrong listings, each by a call or two on the bench shelf after which it has broken the contract of `listing`. Assumes nothing.
+-- Wrong listings, each by a call or two on the bench shelf after which it has broken the contract of `listing`.
 use Prim.Native.Nat.{ℕ}
 use native.Mathlib.Omega.{arith}
 use mathlib.Core.List.{List}

@@ -1,4 +1,4 @@
--- A `valid` that always answers the same, yes or no, is not the contract's. Assumes nothing.
+-- A `valid` that always answers the same, yes or no, is not the contract's.
 use mathlib.Core.Bool.{Bool, true, false, true≢false}
 use mathlib.Core.Path.{_≡_, sym, _∙_}
 use lib.ListN.{set}

@@ -1,4 +1,4 @@
--- A result comes, goes, and all of a drive's go (01, "The image" and "Commands"). Assumes nothing.
+-- A result comes, goes, and all of a drive's go (01, "The image" and "Commands").
 use Prim.Native.Nat.{ℕ, zero, suc, _+_, _-_}
 use mathlib.Core.List.{List, [], _∷_, _++_}
 use mathlib.Core.Bool.{Bool, cond}
@@ -6,9 +6,9 @@ use lib.Dec.{ltb, eqb}
 use lib.ListN.{replicate}
 use Rattle.octets.specs.Put.{put}
 use Rattle.octets.specs.Number.{toBe}
-use Rattle.rules.specs.declared.Found.{Found}
-use Rattle.rules.specs.declared.Found.the-variants.{At, Nothing}
-use Rattle.rules.specs.Every.{every}
+use Rattle.folds.specs.declared.Found.{Found}
+use Rattle.folds.specs.declared.Found.the-variants.{At, Nothing}
+use Rattle.folds.specs.Every.{every}
 use Rattle.geometry.specs.declared.Geometry.{Geometry}
 use Rattle.geometry.specs.Header.{slotAt}
 use Rattle.slots.specs.declared.Slot.{Slot}

@@ -1,13 +1,13 @@
--- What the slots' tests say, by name. Assumes nothing.
+-- What the slots' tests say, by name.
 use mathlib.Core.Path.{_≡_, refl}
 use mathlib.Core.List.{List}
 use mathlib.Core.Bool.{true, false, not}
 use Prim.Native.Nat.{ℕ, _+_, _≤_, _<_}
 use borrow.Author.Tests.{leb-true, ltb-true, eqb-true, le-leb, lt-ltb, eq-eqb, not-true, not-false}
-use Rattle.rules.specs.Every.{every, holds, every-of}
-use Rattle.rules.specs.All.{all-at, all-intro}
-use Rattle.rules.specs.declared.Found.the-variants.{At}
-use Rattle.rules.specs.Least.{least-inside}
+use Rattle.folds.specs.Every.{every, holds, every-of}
+use Rattle.folds.specs.All.{all-at, all-intro}
+use Rattle.folds.specs.declared.Found.the-variants.{At}
+use Rattle.folds.specs.Least.{least-inside}
 use Rattle.geometry.specs.declared.Geometry.{Geometry}
 use Rattle.slots.specs.declared.Slot.{Slot}
 use Rattle.slots.specs.Record.{slotOf, zeroSlot, isUsed}

@@ -1,4 +1,4 @@
--- An image whose bytes in the slots are as before has the same slots. Assumes nothing.
+-- An image whose bytes in the slots are as before has the same slots.
 use Prim.Native.Nat.{ℕ, _+_, _-_, _*_, _≤_, _<_}
 use native.Mathlib.Omega.{arith}
 use mathlib.Core.Bool.{not}
@@ -10,10 +10,10 @@ use lib.ListN.{length}
 use Rattle.octets.specs.Part.{part, part-part}
 use Rattle.octets.specs.Put.{put}
 use Rattle.octets.specs.PutPut.{part-put-apart}
-use Rattle.rules.specs.Every.{every-ext}
-use Rattle.rules.specs.All.{allBelow, all-ext}
-use Rattle.rules.specs.Count.{count-ext}
-use Rattle.rules.specs.Least.{least-ext}
+use Rattle.folds.specs.Every.{every-ext}
+use Rattle.folds.specs.All.{allBelow, all-ext}
+use Rattle.folds.specs.Count.{count-ext}
+use Rattle.folds.specs.Least.{least-ext}
 use Rattle.geometry.specs.declared.Geometry.{Geometry}
 use Rattle.geometry.specs.Header.{slotSize, slotAt, dataAt}
 use Rattle.geometry.specs.Frame.{Placed}

@@ -1,13 +1,13 @@
--- Used slots and their ranks, where the slots are right: each rank of 1 to k is one slot's. Assumes nothing.
+-- Used slots and their ranks, where the slots are right: each rank of 1 to k is one slot's.
 use Prim.Native.Nat.{ℕ, _+_, _-_, _≤_, _<_}
 use native.Mathlib.Omega.{arith}
 use mathlib.Core.Bool.{true, false, not}
 use mathlib.Core.Path.{_≡_, ap, _∙_}
 use mathlib.Core.Logic.{⊎-elim}
 use borrow.Author.Tests.{eqb-true, eq-eqb, ne-eqb}
-use Rattle.rules.specs.Cases.{either}
-use Rattle.rules.specs.Every.{each, every-of}
-use Rattle.rules.specs.Count.{count-unique}
+use Rattle.folds.specs.Cases.{either}
+use Rattle.folds.specs.Every.{each, every-of}
+use Rattle.folds.specs.Count.{count-unique}
 use Rattle.geometry.specs.declared.Geometry.{Geometry}
 use Rattle.slots.specs.declared.Slot.{Slot}
 use Rattle.slots.specs.Record.{isUsed}

@@ -1,4 +1,4 @@
--- A slot's record (01, "The image"). Only this file knows where its fields lie. Assumes nothing.
+-- A slot's record (01, "The image"). Only this file knows where its fields lie.
 use Prim.Native.Nat.{ℕ}
 use mathlib.Core.List.{List, _++_}
 use mathlib.Core.Bool.{Bool, not}

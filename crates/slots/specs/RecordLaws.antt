@@ -1,4 +1,4 @@
--- What is written as a record is read as it. Assumes nothing.
+-- What is written as a record is read as it.
 use mathlib.Core.Path.{_≡_, refl, sym, ap, _∙_}
 use mathlib.Core.List.{List, [], _∷_}
 use mathlib.Core.Logic.{inr}

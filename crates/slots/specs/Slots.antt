@@ -1,11 +1,11 @@
--- What makes the slots right (01, "The image"). Assumes nothing.
+-- What makes the slots right (01, "The image").
 use Prim.Native.Nat.{ℕ, _+_}
 use mathlib.Core.List.{List, [], _∷_}
 use mathlib.Core.Bool.{Bool, cond}
 use lib.Dec.{leb, ltb, eqb}
-use Rattle.rules.specs.Every.{every}
-use Rattle.rules.specs.All.{allBelow}
-use Rattle.rules.specs.Count.{countBelow}
+use Rattle.folds.specs.Every.{every}
+use Rattle.folds.specs.All.{allBelow}
+use Rattle.folds.specs.Count.{countBelow}
 use Rattle.geometry.specs.declared.Geometry.{Geometry}
 use Rattle.slots.specs.declared.Slot.{Slot}
 use Rattle.slots.specs.Record.{slotOf, isUsed}

@@ -1,4 +1,4 @@
--- What a write inside a slot does to the slots: to its own record, and to the others. Assumes nothing.
+-- What a write inside a slot does to the slots: to its own record, and to the others.
 use mathlib.Core.Path.{_≡_, ap, _∙_}
 use mathlib.Core.Logic.{inl, inr, ⊎-elim}
 use mathlib.Core.List.{List, _++_}

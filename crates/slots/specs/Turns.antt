@@ -1,4 +1,4 @@
--- How the searches and changes go on from slot to slot, as the code does. Assumes nothing.
+-- How the searches and changes go on from slot to slot, as the code does.
 use mathlib.Core.Path.{_≡_, refl, sym, ap, ap₂, _∙_}
 use mathlib.Core.List.{List, [], _∷_}
 use mathlib.Core.Bool.{Bool, true, false, _&&_}
@@ -11,8 +11,8 @@ use borrow.Author.Tests.{lt-ltb, le-ltb}
 use Rattle.octets.specs.Put.{put}
 use Rattle.octets.specs.PutPut.{put-comm, put-append}
 use Rattle.octets.specs.Number.{be, toBe}
-use Rattle.rules.specs.declared.Found.the-variants.{At, Nothing}
-use Rattle.rules.specs.Every.{every, every-joined}
+use Rattle.folds.specs.declared.Found.the-variants.{At, Nothing}
+use Rattle.folds.specs.Every.{every, every-joined}
 use Rattle.geometry.specs.declared.Geometry.{Geometry}
 use Rattle.geometry.specs.Header.{slotAt}
 use Rattle.slots.specs.declared.Slot.{Slot}

@@ -1,9 +1,9 @@
 // The slot that takes a result, and the slot that answers.
 use crate::Best;
 use crate::Slot;
+use folds::Found;
 use geometry::Block;
 use geometry::Geometry;
-use rules::Found;
 ghost use mathlib.Core.Path.{_≡_};
 ghost use Rattle.geometry.specs.Frame.{Framed};
 ghost use Rattle.slots.specs.Find.{emptySlot, better, newestOf};

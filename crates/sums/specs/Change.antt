@@ -1,4 +1,4 @@
--- What a write does to each row's sum. Assumes nothing.
+-- What a write does to each row's sum.
 use mathlib.Core.Bool.{Bool, true, cond}
 use mathlib.Core.Path.{_≡_, refl, sym, ap, ap₂, _∙_}
 use mathlib.Core.Logic.{⊎-elim}
@@ -12,7 +12,7 @@ use Rattle.octets.specs.Put.{put}
 use Rattle.octets.specs.PutPut.{part-put-below, part-put-above, part-put-of}
 use Rattle.octets.specs.Pieces.{block-inside}
 use Rattle.octets.specs.Xor.{_⊻_, length-xor-le, xor-nil, xor-commutes, xor-regroups, xor-swaps, xor-cancels, part-xor}
-use Rattle.rules.specs.Cases.{order, last-or-below}
+use Rattle.folds.specs.Cases.{order, last-or-below}
 use Rattle.geometry.specs.declared.Geometry.{Geometry}
 use Rattle.geometry.specs.Header.{place, blocksAt}
 use Rattle.geometry.specs.Frame.{Framed}

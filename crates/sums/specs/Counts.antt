@@ -1,4 +1,4 @@
--- The laws of which drives a row counts: all that is known of it elsewhere. Assumes nothing.
+-- The laws of which drives a row counts: all that is known of it elsewhere.
 use Prim.Native.Nat.{ℕ, _<_}
 use mathlib.Core.Bool.{Bool, true, cond}
 use mathlib.Core.List.{List, []}

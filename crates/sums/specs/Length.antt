@@ -1,4 +1,4 @@
--- How long a row's sum is. Assumes nothing.
+-- How long a row's sum is.
 use mathlib.Core.Bool.{Bool, true, false, cond}
 use mathlib.Core.Path.{_≡_, _∙_}
 use mathlib.Core.List.{List, []}

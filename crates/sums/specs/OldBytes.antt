@@ -1,4 +1,4 @@
--- Over adjoining rows whose sums are zero, the XOR of every other drive's blocks is the bytes of the drive left out. Assumes nothing.
+-- Over adjoining rows whose sums are zero, the XOR of every other drive's blocks is the bytes of the drive left out.
 use Prim.Native.Nat.{ℕ, _+_, _*_, _≤_, _<_}
 use native.Mathlib.Omega.{arith}
 use mathlib.Core.Path.{_≡_, refl, sym, ap, ap₂, _∙_}
@@ -7,7 +7,7 @@ use lib.ListN.{length, replicate}
 use Rattle.octets.specs.Part.{part, length-part, part-part}
 use Rattle.octets.specs.Pieces.{block-inside, blocks-ext}
 use Rattle.octets.specs.Operands.{xorAll, Long, length-xorAll, partsOf, part-xorAll}
-use Rattle.rules.specs.Each.{EachIs, each-map, perm-length, perm-each}
+use Rattle.folds.specs.Each.{EachIs, each-map, perm-length, perm-each}
 use Rattle.geometry.specs.declared.Geometry.{Geometry}
 use Rattle.geometry.specs.Header.{place, blocksAt}
 use Rattle.geometry.specs.Frame.{Framed}

@@ -1,4 +1,4 @@
--- Every other drive once: where a row's sum is zero, the XOR of their blocks is the block of the one left out. Assumes nothing.
+-- Every other drive once: where a row's sum is zero, the XOR of their blocks is the block of the one left out.
 use Prim.Native.Nat.{ℕ, zero, suc, _≤_, _<_}
 use native.Mathlib.Nat.{not-suc-le-zero}
 use native.Mathlib.Omega.{arith}
@@ -11,8 +11,8 @@ use lib.ListN.{length, replicate}
 use borrow.Author.Tests.{eq-eqb, ne-eqb, eqb-false}
 use Rattle.octets.specs.Xor.{_⊻_, length-xor, xor-commutes, xor-swaps, xor-cancels, zeros-xor}
 use Rattle.octets.specs.Operands.{xorAll, xorAll-perm}
-use Rattle.rules.specs.Cases.{either, last-or-below}
-use Rattle.rules.specs.Each.{EachIs, each-implies}
+use Rattle.folds.specs.Cases.{either, last-or-below}
+use Rattle.folds.specs.Each.{EachIs, each-implies}
 use Rattle.geometry.specs.declared.Geometry.{Geometry}
 use Rattle.sums.specs.Counts.{added-block}
 use Rattle.sums.specs.Row.{blockIn, summedTo, rowSum}

@@ -1,4 +1,4 @@
--- A row and its sum (01, "The row program": "a block on all drives, failed ones too"). Assumes nothing.
+-- A row and its sum (01, "The row program": "a block on all drives, failed ones too").
 use Prim.Native.Nat.{ℕ, zero, suc}
 use mathlib.Core.Bool.{Bool, true, not, cond}
 use mathlib.Core.List.{List, []}
@@ -6,7 +6,7 @@ use lib.Dec.{eqb}
 use lib.ListN.{getD, replicate}
 use Rattle.octets.specs.Part.{part}
 use Rattle.octets.specs.Xor.{_⊻_}
-use Rattle.rules.specs.All.{allBelow}
+use Rattle.folds.specs.All.{allBelow}
 use Rattle.geometry.specs.declared.Geometry.{Geometry}
 use Rattle.geometry.specs.Header.{place}
 

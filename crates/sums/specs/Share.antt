@@ -1,4 +1,4 @@
--- What bytes laid over blocks from a block on have in each row. Assumes nothing.
+-- What bytes laid over blocks from a block on have in each row.
 use mathlib.Core.Path.{_≡_, _∙_}
 use mathlib.Core.Bool.{Bool, true, false, cond}
 use mathlib.Core.List.{List, []}

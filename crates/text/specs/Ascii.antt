@@ -1,4 +1,4 @@
--- Text in a list of bytes, and the bytes that it lacks. Assumes nothing.
+-- Text in a list of bytes, and the bytes that it lacks.
 use Prim.Native.Nat.{ℕ}
 use Prim.Native.Char.{code}
 use Prim.Native.String.{String, [] as end, _∷_ as _then_}

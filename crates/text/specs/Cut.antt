@@ -1,4 +1,4 @@
--- A text cut at every b. Assumes nothing.
+-- A text cut at every b.
 use Prim.Native.Nat.{ℕ}
 use mathlib.Core.Bool.{true, cond}
 use mathlib.Core.List.{List, [], _∷_, _++_, append-assoc, append-nil}

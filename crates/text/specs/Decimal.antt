@@ -1,4 +1,4 @@
--- Numbers in decimal. Assumes nothing.
+-- Numbers in decimal.
 use Prim.Native.Nat.{ℕ, zero, suc, _+_, _-_, _*_, _/_, _%_, _^_, _≤_, _<_}
 use Prim.Native.String.{String}
 use native.Mathlib.Nat.{not-suc-le-zero, pow-suc}
@@ -10,7 +10,7 @@ use mathlib.Core.Path.{_≡_, refl, sym, ap, _∙_}
 use lib.Dec.{ltb}
 use lib.ListN.{length, length-append}
 use borrow.Author.Tests.{lt-ltb, le-ltb, ne-eqb}
-use Rattle.rules.specs.Cases.{order}
+use Rattle.folds.specs.Cases.{order}
 use Rattle.text.specs.Ascii.{ascii, lacks, lacks-append}
 
 -- the digits of a number of at most k digits, the highest first; `0` is 48

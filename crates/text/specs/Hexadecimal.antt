@@ -1,4 +1,4 @@
--- Bytes in hexadecimal. Assumes nothing.
+-- Bytes in hexadecimal.
 use Prim.Native.Nat.{ℕ, suc, _+_, _*_, _/_, _%_, _<_}
 use native.Mathlib.Omega.{arith}
 use mathlib.Core.Bool.{true, cond}
@@ -9,7 +9,7 @@ use lib.Dec.{ltb}
 use lib.ListN.{length, getD, take}
 use lib.Seq.{take-suc}
 use borrow.Author.Tests.{lt-ltb, le-ltb, ne-eqb}
-use Rattle.rules.specs.Cases.{order}
+use Rattle.folds.specs.Cases.{order}
 use Rattle.text.specs.Ascii.{ascii, lacks}
 
 -- the sign of a digit below 16, in lower case

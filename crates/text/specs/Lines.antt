@@ -1,9 +1,9 @@
--- Lines of text, each ended by a newline. Assumes nothing.
+-- Lines of text, each ended by a newline.
 use Prim.Native.Nat.{ℕ}
 use mathlib.Core.Bool.{true}
 use mathlib.Core.List.{List, [], _∷_, _++_, append-assoc}
 use mathlib.Core.Path.{_≡_, refl, sym, ap, _∙_}
-use Rattle.rules.specs.Each.{EachIs}
+use Rattle.folds.specs.Each.{EachIs}
 use Rattle.text.specs.Ascii.{ascii, lacks}
 use Rattle.text.specs.Cut.{cutFrom, cut-first}
 

@@ -1,4 +1,4 @@
--- What a writer leaves of the room that it is lent. Assumes nothing.
+-- What a writer leaves of the room that it is lent.
 use Prim.Native.Nat.{ℕ, _+_, _≤_, _<_}
 use native.Mathlib.Nat.{add-zero}
 use native.Mathlib.Omega.{arith}
@@ -12,7 +12,7 @@ use borrow.Author.Tests.{le-leb, lt-leb}
 use Rattle.octets.specs.Part.{part}
 use Rattle.octets.specs.Put.{put, length-put, put-nil, set-put}
 use Rattle.octets.specs.PutPut.{put-append, part-put}
-use Rattle.rules.specs.Cases.{order}
+use Rattle.folds.specs.Cases.{order}
 
 -- xs stands in the room from index at on, the rest is as it was before, and next is the index after xs
 pub record Wrote (xs : List ℕ) (at next : ℕ) (before after : List ℕ) : Type 0 where

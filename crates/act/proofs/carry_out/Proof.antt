@@ -1,4 +1,4 @@
--- `act::carry_out` meets its contract. Assumes nothing.
+-- `act::carry_out` meets its contract.
 use mathlib.Core.Path.{refl}
 use borrow.Author.Needs.{needs}
 use Rattle.act.specs.Carry.{allowed-as, few-as, done-as, done-quietly}

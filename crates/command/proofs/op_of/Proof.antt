@@ -1,5 +1,5 @@
--- `command::op_of` meets its contract. Assumes nothing.
-use Rattle.rules.specs.Tests.{tests}
+-- `command::op_of` meets its contract.
+use Rattle.folds.specs.Tests.{tests}
 use Rattle.command.specs.Command.{opOf}
 use Rattle.command.proofs.op_of.Statement.{statement}
 use Rattle.command.proofs.op_of.Tie as tie

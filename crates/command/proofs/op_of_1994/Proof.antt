@@ -1,5 +1,5 @@
--- `command::op_of_1994` meets its contract. Assumes nothing.
-use Rattle.rules.specs.Tests.{tests}
+-- `command::op_of_1994` meets its contract.
+use Rattle.folds.specs.Tests.{tests}
 use Rattle.command.proofs.op_of_1994.Statement.{statement}
 use Rattle.command.proofs.op_of_1994.Tie as tie
 

@@ -1,4 +1,4 @@
--- `decide::called` meets its contract. Assumes nothing.
+-- `decide::called` meets its contract.
 use mathlib.Core.Path.{sym, _∙_}
 use borrow.Author.Tests.{not-true, not-false}
 use borrow.Author.Needs.{needs}

@@ -1,4 +1,4 @@
--- `drives::address` meets its contract. Assumes nothing.
+-- `drives::address` meets its contract.
 use mathlib.Core.Path.{ap, _∙_}
 use Prim.Native.Nat.{ℕ, _+_}
 use native.Mathlib.Omega.{arith}

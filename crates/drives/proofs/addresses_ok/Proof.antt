@@ -1,9 +1,9 @@
--- `drives::addresses_ok` meets its contract. The loop's invariant: ok says whether the addresses passed differ. Assumes nothing.
+-- `drives::addresses_ok` meets its contract. The loop's invariant: ok says whether the addresses passed differ.
 use Prim.Native.Nat.{_≤_, _-_}
 use mathlib.Core.Path.{_≡_, sym}
 use native.Mathlib.Omega.{arith}
 use borrow.Author.Needs.{needs}
-use Rattle.rules.specs.All.{allBelow, all-none, all-turn, all-end}
+use Rattle.folds.specs.All.{allBelow, all-none, all-turn, all-end}
 use Rattle.drives.specs.Table.{newAddress, addressesOk}
 use Rattle.drives.proofs.addresses_ok.Statement.{statement}
 use Rattle.drives.proofs.addresses_ok.Tie as tie

@@ -1,12 +1,12 @@
--- `drives::find_drive` meets its contract. The loop's invariant: none of the drives passed has the address. Assumes nothing.
+-- `drives::find_drive` meets its contract. The loop's invariant: none of the drives passed has the address.
 use Prim.Native.Nat.{_≤_, _-_}
 use mathlib.Core.Path.{_≡_, sym, _∙_}
 use native.Mathlib.Omega.{arith}
 use lib.Dec.{eqb}
 use borrow.Author.Needs.{needs}
 use borrow.Author.Tests.{eq-eqb, ne-eqb}
-use Rattle.rules.specs.declared.Found.the-variants.{Nothing}
-use Rattle.rules.specs.Least.{leastBelow, least-start, least-more, least-stop, least-done}
+use Rattle.folds.specs.declared.Found.the-variants.{Nothing}
+use Rattle.folds.specs.Least.{leastBelow, least-start, least-more, least-stop, least-done}
 use Rattle.drives.specs.Table.{addressOf, driveOf}
 use Rattle.drives.proofs.find_drive.Statement.{statement}
 use Rattle.drives.proofs.find_drive.Tie as tie

@@ -1,4 +1,4 @@
--- `drives::is_failed` meets its contract. Assumes nothing.
+-- `drives::is_failed` meets its contract.
 use mathlib.Core.Path.{ap, _∙_}
 use Prim.Native.Nat.{ℕ}
 use native.Mathlib.Omega.{arith}

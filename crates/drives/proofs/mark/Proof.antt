@@ -1,4 +1,4 @@
--- `drives::mark` meets its contract. Assumes nothing.
+-- `drives::mark` meets its contract.
 use mathlib.Core.Path.{ap, _∙_}
 use mathlib.Core.List.{[], _∷_}
 use Prim.Native.Nat.{ℕ}

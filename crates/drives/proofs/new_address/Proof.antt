@@ -1,12 +1,12 @@
 -- `drives::new_address` meets its contract. The loop's invariant: ok says whether no drive passed has drive i's address.
--- Assumes nothing.
+--
 use Prim.Native.Nat.{ℕ, _≤_, _-_}
 use mathlib.Core.Bool.{not}
 use mathlib.Core.Path.{_≡_, sym, ap₂}
 use native.Mathlib.Omega.{arith}
 use lib.Dec.{eqb}
 use borrow.Author.Needs.{needs}
-use Rattle.rules.specs.All.{allBelow, all-none, all-turn, all-end}
+use Rattle.folds.specs.All.{allBelow, all-none, all-turn, all-end}
 use Rattle.drives.specs.Table.{addressOf, newAddress}
 use Rattle.drives.proofs.new_address.Statement.{statement}
 use Rattle.drives.proofs.new_address.Tie as tie

@@ -1,11 +1,11 @@
--- `drives::states_ok` meets its contract. The loop's invariant: ok says whether the states passed are 0 or 1. Assumes nothing.
+-- `drives::states_ok` meets its contract. The loop's invariant: ok says whether the states passed are 0 or 1.
 use Prim.Native.Nat.{ℕ, _≤_, _-_}
 use mathlib.Core.Path.{_≡_, sym, ap, _∙_}
 use native.Mathlib.Omega.{arith}
 use lib.Dec.{leb}
 use lib.ListN.{getD}
 use borrow.Author.Needs.{needs}
-use Rattle.rules.specs.All.{allBelow, all-none, all-turn, all-end}
+use Rattle.folds.specs.All.{allBelow, all-none, all-turn, all-end}
 use Rattle.drives.specs.Table.{stateOf, statesOk}
 use Rattle.drives.proofs.states_ok.Statement.{statement}
 use Rattle.drives.proofs.states_ok.Tie as tie

@@ -1,8 +1,8 @@
--- `drives::table_ok` meets its contract. Assumes nothing.
+-- `drives::table_ok` meets its contract.
 use mathlib.Core.Path.{ap₂, _∙_}
 use mathlib.Core.Bool.{_&&_}
 use borrow.Author.Needs.{needs}
-use Rattle.rules.specs.Every.{every-joined}
+use Rattle.folds.specs.Every.{every-joined}
 use Rattle.drives.specs.Table.{tableOk}
 use Rattle.drives.proofs.table_ok.Statement.{statement}
 use Rattle.drives.proofs.table_ok.Tie as tie

@@ -1,4 +1,4 @@
--- `gather::gather` meets its contract. Assumes nothing.
+-- `gather::gather` meets its contract.
 use Prim.Native.Nat.{_≤_}
 use native.Mathlib.Omega.{arith}
 use lib.Dec.{lit≤}

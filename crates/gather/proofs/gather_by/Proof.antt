@@ -1,4 +1,4 @@
--- `gather::gather_by` meets its contract. Assumes nothing.
+-- `gather::gather_by` meets its contract.
 use mathlib.Core.Path.{_≡_, refl}
 use Prim.Native.Nat.{_≤_, _-_}
 use native.Mathlib.Omega.{arith}

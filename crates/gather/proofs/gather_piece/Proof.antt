@@ -1,4 +1,4 @@
--- `gather::gather_piece` meets its contract. Assumes nothing.
+-- `gather::gather_piece` meets its contract.
 use native.Mathlib.Omega.{arith}
 use borrow.Author.Needs.{needs}
 use Rattle.gather.specs.Steps.{piece-within, piece-in-turn}

@@ -1,8 +1,8 @@
--- `geometry::framed` meets its contract. Assumes nothing.
+-- `geometry::framed` meets its contract.
 use mathlib.Core.Path.{sym, ap, _∙_}
 use borrow.Author.Tests.{not-true, not-false, lt-leb, le-leb, eq-eqb, ne-eqb}
 use borrow.Author.Needs.{needs}
-use Rattle.rules.specs.Every.{fails, every-of}
+use Rattle.folds.specs.Every.{fails, every-of}
 use Rattle.geometry.specs.Header.{framedOk, rangesOk, offsetsOk, endOf}
 use Rattle.geometry.specs.Frame.{in-range, placed}
 use Rattle.geometry.proofs.framed.Statement.{statement}

@@ -1,9 +1,9 @@
--- `image::valid` meets its contract. Assumes nothing.
+-- `image::valid` meets its contract.
 use mathlib.Core.Path.{sym, ap, subst, _∙_}
 use borrow.Author.Tests.{not-true, not-false}
 use borrow.Author.Needs.{needs}
-use Rattle.rules.specs.Every.{every, fails}
-use Rattle.rules.specs.Tests.{tests}
+use Rattle.folds.specs.Every.{every, fails}
+use Rattle.folds.specs.Tests.{tests}
 use Rattle.geometry.specs.Frame.{framed, framed-long, Framed}
 use Rattle.drives.specs.Table.{tableOk}
 use Rattle.slots.specs.Slots.{slotsOk}

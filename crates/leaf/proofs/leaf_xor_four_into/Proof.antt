@@ -1,4 +1,4 @@
--- `leaf::leaf_xor_four_into` meets its contract: the tests of the lengths decide both what it answers and what it leaves. Assumes nothing.
+-- `leaf::leaf_xor_four_into` meets its contract: the tests of the lengths decide both what it answers and what it leaves.
 use mathlib.Core.Path.{refl}
 use borrow.Author.Tests.{eq-eqb, ne-eqb}
 use Rattle.leaf.specs.Leaf.{sameLength, xored}

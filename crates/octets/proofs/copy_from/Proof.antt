@@ -1,4 +1,4 @@
--- `octets::copy_from` meets its contract. Assumes nothing.
+-- `octets::copy_from` meets its contract.
 use mathlib.Core.Path.{_∙_}
 use lib.ListN.{length}
 use Rattle.octets.specs.Part.{mid-part}

@@ -1,5 +1,5 @@
 -- `octets::copy_into` meets its contract. The loop's invariant: dst is what it was, with the first i bytes of src written over its
--- front. Assumes nothing.
+-- front.
 use mathlib.Core.Path.{_≡_, refl, sym, ap, _∙_}
 use Prim.Native.Nat.{_≤_, _-_}
 use native.Mathlib.Numerals.{add-one}

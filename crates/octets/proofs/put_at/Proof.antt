@@ -1,4 +1,4 @@
--- `octets::put_at` meets its contract. Assumes nothing.
+-- `octets::put_at` meets its contract.
 use mathlib.Core.Path.{ap, _∙_}
 use lib.ListN.{length}
 use borrow.Author.Needs.{needs}

@@ -1,4 +1,4 @@
--- `octets::xor_at` meets its contract: what `xor_into` leaves of the part comes back in the part's place. Assumes nothing.
+-- `octets::xor_at` meets its contract: what `xor_into` leaves of the part comes back in the part's place.
 use mathlib.Core.Path.{ap, _∙_}
 use mathlib.Core.List.{List}
 use Prim.Native.Nat.{ℕ}

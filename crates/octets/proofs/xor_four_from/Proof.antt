@@ -1,4 +1,4 @@
--- `octets::xor_four_from` meets its contract. Its facts are named, not sought: a search reads every place of the code. Assumes nothing.
+-- `octets::xor_four_from` meets its contract. Its facts are named, not sought: a search reads every place of the code.
 use mathlib.Core.Path.{_≡_, ap, _∙_}
 use mathlib.Core.List.{List, [], _∷_}
 use Prim.Native.Nat.{ℕ, _+_, _-_, _≤_, _<_, _^_}

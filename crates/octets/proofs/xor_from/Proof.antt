@@ -1,4 +1,4 @@
--- `octets::xor_from` meets its contract. Assumes nothing.
+-- `octets::xor_from` meets its contract.
 use mathlib.Core.Path.{ap, _∙_}
 use lib.ListN.{length}
 use Rattle.octets.specs.Xor.{_⊻_}

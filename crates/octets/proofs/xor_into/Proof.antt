@@ -1,5 +1,5 @@
 -- `octets::xor_into` meets its contract. The loop's invariant: dst is what it was, XORed with the first i bytes of src.
--- Assumes nothing.
+--
 use mathlib.Core.Path.{_≡_, refl, sym, ap, _∙_}
 use Prim.Native.Nat.{_≤_, _-_}
 use native.Mathlib.Numerals.{add-one}

@@ -1,4 +1,4 @@
--- `rows::print` meets its contract: the bytes that it writes out are the room's. Assumes nothing.
+-- `rows::print` meets its contract: the bytes that it writes out are the room's.
 use mathlib.Core.Path.{sym}
 use lib.Seq.{length-take-le}
 use borrow.Author.Needs.{needs}

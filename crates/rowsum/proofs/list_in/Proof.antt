@@ -1,4 +1,4 @@
--- `rowsum::list_in` meets its contract. Assumes nothing.
+-- `rowsum::list_in` meets its contract.
 use mathlib.Core.Path.{sym}
 use lib.Seq.{length-take-le}
 use borrow.Author.Needs.{needs}

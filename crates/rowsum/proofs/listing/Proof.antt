@@ -1,4 +1,4 @@
--- `rowsum::listing` meets its contract. Assumes nothing.
+-- `rowsum::listing` meets its contract.
 use mathlib.Core.Path.{sym, _∙_}
 use borrow.Author.Tests.{not-true, not-false}
 use borrow.Author.Needs.{needs}

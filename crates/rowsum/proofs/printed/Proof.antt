@@ -1,4 +1,4 @@
--- `rowsum::printed` meets its contract. Assumes nothing.
+-- `rowsum::printed` meets its contract.
 use borrow.Author.Needs.{needs}
 use Rattle.rowsum.specs.Whole.{printed-long, printed-listing}
 use Rattle.rowsum.proofs.printed.Statement.{statement}

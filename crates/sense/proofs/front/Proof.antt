@@ -1,4 +1,4 @@
--- `sense::front` meets its contract. Assumes nothing.
+-- `sense::front` meets its contract.
 use mathlib.Core.Path.{ap, _∙_}
 use lib.ListN.{replicate}
 use borrow.Author.Needs.{needs}

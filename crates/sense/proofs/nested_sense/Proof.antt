@@ -1,4 +1,4 @@
--- `sense::nested_sense` meets its contract. Assumes nothing.
+-- `sense::nested_sense` meets its contract.
 use borrow.Author.Needs.{needs}
 use Rattle.octets.specs.Put.{put}
 use Rattle.octets.specs.Number.{toBe}

@@ -1,4 +1,4 @@
--- `sense::no_sense` meets its contract. Assumes nothing.
+-- `sense::no_sense` meets its contract.
 use mathlib.Core.Path.{refl}
 use Rattle.sense.specs.Sense.{noSense}
 use Rattle.sense.proofs.no_sense.Statement.{statement}

@@ -1,4 +1,4 @@
--- `sense::number` meets its contract. Assumes nothing.
+-- `sense::number` meets its contract.
 use borrow.Author.Needs.{needs}
 use Rattle.sense.specs.Answers.{numberOf}
 use Rattle.sense.proofs.Told.{told}

@@ -1,4 +1,4 @@
--- `sense::outcome_of` meets its contract. Assumes nothing.
+-- `sense::outcome_of` meets its contract.
 use borrow.Author.Needs.{needs}
 use Rattle.sense.proofs.outcome_of.Statement.{statement}
 use Rattle.sense.proofs.outcome_of.Tie as tie

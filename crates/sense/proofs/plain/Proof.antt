@@ -1,4 +1,4 @@
--- `sense::plain` meets its contract. Assumes nothing.
+-- `sense::plain` meets its contract.
 use Prim.Native.Nat.{ℕ}
 use mathlib.Core.List.{List, [], _∷_, _++_}
 use mathlib.Core.Path.{ap}

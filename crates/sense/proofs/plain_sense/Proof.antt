@@ -1,4 +1,4 @@
--- `sense::plain_sense` meets its contract. Assumes nothing.
+-- `sense::plain_sense` meets its contract.
 use borrow.Author.Needs.{needs}
 use Rattle.sense.specs.Sense.{plainSense}
 use Rattle.sense.proofs.plain_sense.Statement.{statement}

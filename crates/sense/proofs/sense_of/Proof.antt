@@ -1,4 +1,4 @@
--- `sense::sense_of` meets its contract. Assumes nothing.
+-- `sense::sense_of` meets its contract.
 use borrow.Author.Needs.{needs}
 use Rattle.sense.specs.Sense.{senseOf}
 use Rattle.sense.proofs.Told.{told}

@@ -1,4 +1,4 @@
--- `shelf::mark` meets its contract. Assumes nothing.
+-- `shelf::mark` meets its contract.
 use mathlib.Core.Path.{sym, _∙_}
 use native.Mathlib.Omega.{arith}
 use Rattle.decide.specs.Called.{called-drive}

@@ -1,4 +1,4 @@
--- `shelf::reset` meets its contract. Assumes nothing.
+-- `shelf::reset` meets its contract.
 use mathlib.Core.Path.{sym, _∙_}
 use Rattle.decide.specs.Called.{called-drive}
 use Rattle.shelf.specs.Opened.{reset-refused, reset-done}

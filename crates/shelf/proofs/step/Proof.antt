@@ -1,9 +1,9 @@
--- `shelf::step` meets its contract. Assumes nothing.
+-- `shelf::step` meets its contract.
 use mathlib.Core.Path.{sym, _∙_}
 use native.Mathlib.Omega.{arith}
 use borrow.Author.Needs.{needs}
 use Rattle.geometry.specs.Frame.{framed-long}
-use Rattle.licence.specs.Granted.{granted}
+use Rattle.grants.specs.Granted.{granted}
 use Rattle.meaning.specs.Stepped.{stopped, went}
 use Rattle.shelf.specs.Licensed.{licensed}
 use Rattle.shelf.proofs.step.Statement.{statement}

@@ -1,4 +1,4 @@
--- `shelf_c::shelf_mark` meets its contract. Assumes nothing.
+-- `shelf_c::shelf_mark` meets its contract.
 use mathlib.Core.Path.{ap, _∙_}
 use borrow.Author.Needs.{needs}
 use Rattle.sense.specs.Answers.{numberOf}

@@ -1,4 +1,4 @@
--- `shelf_c::shelf_step` meets its contract. Assumes nothing.
+-- `shelf_c::shelf_step` meets its contract.
 use mathlib.Core.Path.{refl}
 use native.Mathlib.Omega.{arith}
 use borrow.Author.Needs.{needs}

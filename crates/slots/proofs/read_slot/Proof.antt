@@ -1,4 +1,4 @@
--- `slots::read_slot` meets its contract. Its facts are named, not sought: a search reads every place of the code. Assumes nothing.
+-- `slots::read_slot` meets its contract. Its facts are named, not sought: a search reads every place of the code.
 use lib.Dec.{lit≤}
 use Rattle.slots.specs.RecordLaws.{record-room, rank-room, field-room, byte-room, field-fits, read-back}
 use Rattle.slots.proofs.read_slot.Statement.{statement}

@@ -1,4 +1,4 @@
--- `text::put_decimal` meets its contract. It calls itself with one digit less, so its measure is the number. Assumes nothing.
+-- `text::put_decimal` meets its contract. It calls itself with one digit less, so its measure is the number.
 use native.Mathlib.Omega.{arith}
 use Prim.Native.Nat.{ℕ, _<_}
 use borrow.Author.Needs.{needs}

@@ -1,4 +1,4 @@
--- `text::hex_digit` meets its contract. Assumes nothing.
+-- `text::hex_digit` meets its contract.
 use borrow.Author.Tests.{lt-ltb, le-ltb}
 use borrow.Author.Needs.{needs}
 use Rattle.text.specs.Hexadecimal.{hexDigit}

@@ -1,4 +1,4 @@
--- `text::put_field` meets its contract. Assumes nothing.
+-- `text::put_field` meets its contract.
 use borrow.Author.Needs.{needs}
 use Rattle.text.specs.Room.{wrote-then}
 use Rattle.text.proofs.put_field.Statement.{statement}

@@ -1,4 +1,4 @@
--- `text::put_fitted` meets its contract. Assumes nothing.
+-- `text::put_fitted` meets its contract.
 use borrow.Author.Needs.{needs}
 use Rattle.text.specs.Room.{fits, unfitted}
 use Rattle.text.proofs.put_fitted.Statement.{statement}

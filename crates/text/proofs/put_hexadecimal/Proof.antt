@@ -1,4 +1,4 @@
--- `text::put_hexadecimal` meets its contract. The loop's invariant: the first i bytes are written. Assumes nothing.
+-- `text::put_hexadecimal` meets its contract. The loop's invariant: the first i bytes are written.
 use mathlib.Core.Path.{_≡_}
 use Prim.Native.Nat.{_+_, _-_, _*_, _≤_}
 use native.Mathlib.Numerals.{add-one}

@@ -1,4 +1,4 @@
--- `act::moves::hand_over` meets its contract. Assumes nothing.
+-- `act::moves::hand_over` meets its contract.
 use mathlib.Core.Path.{sym, ap, _∙_}
 use borrow.Author.Needs.{needs}
 use Rattle.octets.specs.Part.{mid-part, length-part}

@@ -1,4 +1,4 @@
--- `act::moves::write` meets its contract. Assumes nothing.
+-- `act::moves::write` meets its contract.
 use mathlib.Core.Path.{ap, _∙_}
 use Prim.Native.Nat.{ℕ}
 use native.Mathlib.Omega.{arith}

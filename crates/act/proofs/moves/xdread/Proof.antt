@@ -1,4 +1,4 @@
--- `act::moves::xdread` meets its contract. Assumes nothing.
+-- `act::moves::xdread` meets its contract.
 use mathlib.Core.Path.{ap}
 use Prim.Native.Nat.{ℕ, _+_}
 use native.Mathlib.Omega.{arith}

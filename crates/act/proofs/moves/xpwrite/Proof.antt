@@ -1,4 +1,4 @@
--- `act::moves::xpwrite` meets its contract. Assumes nothing.
+-- `act::moves::xpwrite` meets its contract.
 use native.Mathlib.Omega.{arith}
 use borrow.Author.Needs.{needs}
 use Rattle.meaning.specs.Lengths.{span-in}

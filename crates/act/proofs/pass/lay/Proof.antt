@@ -1,4 +1,4 @@
--- `act::pass::lay` meets its contract. Assumes nothing.
+-- `act::pass::lay` meets its contract.
 use borrow.Author.Needs.{needs}
 use Rattle.act.specs.PassSteps.{lay-xor, lay-plain}
 use Rattle.act.proofs.pass.lay.Statement.{statement}

@@ -1,4 +1,4 @@
--- `act::pass::mix` meets its contract. Assumes nothing.
+-- `act::pass::mix` meets its contract.
 use borrow.Author.Needs.{needs}
 use Rattle.act.specs.PassSteps.{mix-xor, mix-plain}
 use Rattle.act.proofs.pass.mix.Statement.{statement}

@@ -1,4 +1,4 @@
--- `act::pass::pass_front` meets its contract. Assumes nothing.
+-- `act::pass::pass_front` meets its contract.
 use mathlib.Core.Path.{sym}
 use native.Mathlib.Omega.{arith}
 use lib.Seq.{length-take-le}

@@ -1,4 +1,4 @@
--- `act::pass::pass_piece` meets its contract. Assumes nothing.
+-- `act::pass::pass_piece` meets its contract.
 use borrow.Author.Needs.{needs}
 use Rattle.act.specs.PassSteps.{piece-in-turn}
 use Rattle.act.proofs.pass.pass_piece.Statement.{statement}

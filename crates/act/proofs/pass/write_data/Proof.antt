@@ -1,4 +1,4 @@
--- `act::pass::write_data` meets its contract. Assumes nothing.
+-- `act::pass::write_data` meets its contract.
 use borrow.Author.Needs.{needs}
 use Rattle.act.specs.PassSteps.{data-put, data-skip}
 use Rattle.act.proofs.pass.write_data.Statement.{statement}

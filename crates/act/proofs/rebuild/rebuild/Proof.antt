@@ -1,4 +1,4 @@
--- `act::rebuild::rebuild` meets its contract. Assumes nothing.
+-- `act::rebuild::rebuild` meets its contract.
 use borrow.Author.Needs.{needs}
 use Rattle.act.specs.Rebuild.{rebuild-ready, rebuilt-by}
 use Rattle.act.proofs.rebuild.rebuild.Statement.{statement}

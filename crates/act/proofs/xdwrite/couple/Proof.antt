@@ -1,4 +1,4 @@
--- `act::xdwrite::couple` meets its contract. Assumes nothing.
+-- `act::xdwrite::couple` meets its contract.
 use borrow.Author.Needs.{needs}
 use Rattle.act.specs.Xdwrite.{couple-passable, coupled-by}
 use Rattle.act.proofs.xdwrite.couple.Statement.{statement}

@@ -1,4 +1,4 @@
--- `act::xdwrite::retain` meets its contract. Assumes nothing.
+-- `act::xdwrite::retain` meets its contract.
 use mathlib.Core.Path.{ap}
 use Prim.Native.Nat.{ℕ, _+_}
 use native.Mathlib.Omega.{arith}

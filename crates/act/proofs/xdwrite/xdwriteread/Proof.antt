@@ -1,4 +1,4 @@
--- `act::xdwrite::xdwriteread` meets its contract. Assumes nothing.
+-- `act::xdwrite::xdwriteread` meets its contract.
 use mathlib.Core.Path.{sym}
 use native.Mathlib.Omega.{arith}
 use borrow.Author.Needs.{needs}

@@ -1,4 +1,4 @@
--- `command::Command::decode` meets its contract. Assumes nothing.
+-- `command::Command::decode` meets its contract.
 use mathlib.Core.Path.{ap, _∙_}
 use borrow.Author.Needs.{needs}
 use Rattle.command.specs.Command.{sizeOf}

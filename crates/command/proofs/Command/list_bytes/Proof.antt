@@ -1,9 +1,9 @@
--- `command::Command::list_bytes` meets its contract. Assumes nothing.
+-- `command::Command::list_bytes` meets its contract.
 use mathlib.Core.Path.{sym, _∙_}
 use native.Mathlib.Omega.{arith}
 use borrow.Author.Tests.{ne-eqb}
 use borrow.Author.Needs.{needs}
-use Rattle.rules.specs.Tests.{tests}
+use Rattle.folds.specs.Tests.{tests}
 use Rattle.command.specs.Command.{listBytes}
 use Rattle.command.specs.Length.{bytes-small}
 use Rattle.command.proofs.Command.list_bytes.Statement.{statement}

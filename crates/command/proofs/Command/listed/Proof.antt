@@ -1,4 +1,4 @@
--- `command::Command::listed` meets its contract. Assumes nothing.
+-- `command::Command::listed` meets its contract.
 use borrow.Author.Needs.{needs}
 use Rattle.command.specs.Command.{listedOf}
 use Rattle.command.proofs.Command.listed.Statement.{statement}

@@ -1,4 +1,4 @@
--- `command::Command::own` meets its contract. Assumes nothing.
+-- `command::Command::own` meets its contract.
 use borrow.Author.Needs.{needs}
 use Rattle.command.specs.Command.{ownOf}
 use Rattle.command.proofs.Command.own.Statement.{statement}

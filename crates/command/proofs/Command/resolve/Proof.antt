@@ -1,6 +1,6 @@
--- `command::Command::resolve` meets its contract. Assumes nothing.
+-- `command::Command::resolve` meets its contract.
 use borrow.Author.Needs.{needs}
-use Rattle.rules.specs.Tests.{tests}
+use Rattle.folds.specs.Tests.{tests}
 use Rattle.command.specs.Command.{resolvedOf}
 use Rattle.command.proofs.Command.resolve.Statement.{statement}
 use Rattle.command.proofs.Command.resolve.Tie as tie

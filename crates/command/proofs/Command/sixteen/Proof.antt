@@ -1,4 +1,4 @@
--- `command::Command::sixteen` meets its contract. Assumes nothing.
+-- `command::Command::sixteen` meets its contract.
 use borrow.Author.Needs.{needs}
 use Rattle.command.specs.Command.{sixteenOf}
 use Rattle.command.proofs.Command.sixteen.Statement.{statement}

@@ -1,4 +1,4 @@
--- `command::Command::ten` meets its contract. Assumes nothing.
+-- `command::Command::ten` meets its contract.
 use borrow.Author.Needs.{needs}
 use Rattle.command.specs.Command.{tenOf}
 use Rattle.command.proofs.Command.ten.Statement.{statement}

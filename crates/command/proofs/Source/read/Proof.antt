@@ -1,4 +1,4 @@
--- `command::Source::read` meets its contract. Assumes nothing.
+-- `command::Source::read` meets its contract.
 use native.Mathlib.Omega.{arith}
 use borrow.Author.Needs.{needs}
 use Rattle.command.specs.Command.{sourceOf}

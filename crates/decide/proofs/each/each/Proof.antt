@@ -1,4 +1,4 @@
--- `decide::each::each` meets its contract. Assumes nothing.
+-- `decide::each::each` meets its contract.
 use mathlib.Core.Path.{_∙_}
 use borrow.Author.Needs.{needs}
 use Rattle.decide.specs.Joined.{flags-bad, flags-on}

@@ -1,4 +1,4 @@
--- `gather::operands::xor_sources` meets its contract. It calls itself with fewer sources, so its measure is how many are left. Assumes nothing.
+-- `gather::operands::xor_sources` meets its contract. It calls itself with fewer sources, so its measure is how many are left.
 use mathlib.Core.Path.{refl, _∙_}
 use native.Mathlib.Omega.{arith}
 use Rattle.gather.specs.Pieces.{atOnce}

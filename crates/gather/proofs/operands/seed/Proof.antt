@@ -1,4 +1,4 @@
--- `gather::operands::seed` meets its contract. Assumes nothing.
+-- `gather::operands::seed` meets its contract.
 use mathlib.Core.Path.{_∙_}
 use borrow.Author.Needs.{needs}
 use Rattle.gather.specs.Steps.{seed-own, seed-zeros}

@@ -1,4 +1,4 @@
--- `gather::operands::xor_int` meets its contract. Assumes nothing.
+-- `gather::operands::xor_int` meets its contract.
 use native.Mathlib.Omega.{arith}
 use lib.ListN.{length-take, length-drop}
 use borrow.Author.Tests.{ne-eqb}

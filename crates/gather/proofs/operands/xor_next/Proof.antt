@@ -1,4 +1,4 @@
--- `gather::operands::xor_next` meets its contract. Assumes nothing.
+-- `gather::operands::xor_next` meets its contract.
 use native.Mathlib.Omega.{arith}
 use Prim.Native.Nat.{_+_}
 use borrow.Author.Tests.{lt-ltb, le-ltb}

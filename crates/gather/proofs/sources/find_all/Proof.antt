@@ -1,4 +1,4 @@
--- `gather::sources::find_all` meets its contract. Assumes nothing.
+-- `gather::sources::find_all` meets its contract.
 use mathlib.Core.Path.{_≡_, refl}
 use Prim.Native.Nat.{_≤_, _-_}
 use native.Mathlib.Omega.{arith}

@@ -1,4 +1,4 @@
--- `gather::sources::start` meets its contract. Assumes nothing.
+-- `gather::sources::start` meets its contract.
 use borrow.Author.Needs.{needs}
 use Rattle.gather.specs.Starts.{drive-by, start-by}
 use Rattle.gather.proofs.sources.start.Statement.{statement}

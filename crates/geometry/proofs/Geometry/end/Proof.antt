@@ -1,4 +1,4 @@
--- `geometry::Geometry::end` meets its contract. Assumes nothing.
+-- `geometry::Geometry::end` meets its contract.
 use native.Mathlib.Omega.{arith}
 use borrow.Author.Needs.{needs}
 use Rattle.geometry.specs.Frame.{blocks-small, media-small, slots-small}

@@ -1,7 +1,7 @@
--- `geometry::Geometry::offsets_ok` meets its contract. Assumes nothing.
+-- `geometry::Geometry::offsets_ok` meets its contract.
 use native.Mathlib.Omega.{arith}
 use borrow.Author.Needs.{needs}
-use Rattle.rules.specs.Every.{every-joined}
+use Rattle.folds.specs.Every.{every-joined}
 use Rattle.geometry.specs.Header.{offsetsOk}
 use Rattle.geometry.specs.Frame.{slot-small, slots-small}
 use Rattle.geometry.proofs.Geometry.offsets_ok.Statement.{statement}

@@ -1,4 +1,4 @@
--- `geometry::Geometry::place` meets its contract. Assumes nothing.
+-- `geometry::Geometry::place` meets its contract.
 use mathlib.Core.Path.{refl}
 use native.Mathlib.Omega.{arith}
 use Rattle.geometry.specs.Header.{place}

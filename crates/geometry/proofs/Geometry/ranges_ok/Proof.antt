@@ -1,5 +1,5 @@
--- `geometry::Geometry::ranges_ok` meets its contract. Assumes nothing.
-use Rattle.rules.specs.Every.{every-joined}
+-- `geometry::Geometry::ranges_ok` meets its contract.
+use Rattle.folds.specs.Every.{every-joined}
 use Rattle.geometry.specs.Header.{rangesOk}
 use Rattle.geometry.proofs.Geometry.ranges_ok.Statement.{statement}
 use Rattle.geometry.proofs.Geometry.ranges_ok.Tie as tie

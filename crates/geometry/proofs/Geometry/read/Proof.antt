@@ -1,4 +1,4 @@
--- `geometry::Geometry::read` meets its contract. Assumes nothing.
+-- `geometry::Geometry::read` meets its contract.
 use native.Mathlib.Nat.{le-trans}
 use lib.Dec.{lit≤}
 use Rattle.geometry.specs.Kept.{fields-geometry}

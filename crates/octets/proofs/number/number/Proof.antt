@@ -1,4 +1,4 @@
--- `octets::number::number` meets its contract. The loop's invariant: v is the number in the bytes passed. Assumes nothing.
+-- `octets::number::number` meets its contract. The loop's invariant: v is the number in the bytes passed.
 use mathlib.Core.Path.{_≡_, refl}
 use Prim.Native.Nat.{_≤_, _-_, _<_, _^_}
 use native.Mathlib.Omega.{arith}

@@ -1,4 +1,4 @@
--- `octets::number::put_be4` meets its contract. Assumes nothing.
+-- `octets::number::put_be4` meets its contract.
 use mathlib.Core.Path.{ap, _∙_}
 use Rattle.octets.specs.Put.{put}
 use Rattle.octets.specs.Four.{four-bytes}

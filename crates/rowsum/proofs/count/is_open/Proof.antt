@@ -1,4 +1,4 @@
--- `rowsum::count::is_open` meets its contract. Assumes nothing.
+-- `rowsum::count::is_open` meets its contract.
 use mathlib.Core.Path.{_∙_, ap}
 use mathlib.Core.Bool.{not}
 use borrow.Author.Needs.{needs}

@@ -1,4 +1,4 @@
--- `rowsum::count::is_zero` meets its contract. The loop's invariant: the bytes below j are zero. Assumes nothing.
+-- `rowsum::count::is_zero` meets its contract. The loop's invariant: the bytes below j are zero.
 use mathlib.Core.Bool.{true}
 use mathlib.Core.Path.{_≡_}
 use Prim.Native.Nat.{_≤_, _-_}
@@ -7,7 +7,7 @@ use lib.Dec.{eqb}
 use lib.ListN.{getD}
 use borrow.Author.Tests.{eq-eqb, ne-eqb}
 use borrow.Author.Needs.{needs}
-use Rattle.rules.specs.All.{allBelow, all-none, all-more, all-stop, all-done}
+use Rattle.folds.specs.All.{allBelow, all-none, all-more, all-stop, all-done}
 use Rattle.rowsum.proofs.count.is_zero.Statement.{statement}
 use Rattle.rowsum.proofs.count.is_zero.Tie as tie
 

@@ -1,4 +1,4 @@
--- `rowsum::lines::put_head` meets its contract. Assumes nothing.
+-- `rowsum::lines::put_head` meets its contract.
 use borrow.Author.Needs.{needs}
 use Rattle.text.specs.Room.{wrote-then}
 use Rattle.rowsum.specs.Listing.{headLine}

@@ -1,4 +1,4 @@
--- `rowsum::lines::put_line` meets its contract. Assumes nothing.
+-- `rowsum::lines::put_line` meets its contract.
 use native.Mathlib.Omega.{arith}
 use borrow.Author.Needs.{needs}
 use Rattle.text.specs.Hexadecimal.{length-hexadecimal}

@@ -1,4 +1,4 @@
--- `rowsum::lines::put_row` meets its contract. Assumes nothing.
+-- `rowsum::lines::put_row` meets its contract.
 use mathlib.Core.Path.{sym, ap, _∙_}
 use native.Mathlib.Omega.{arith}
 use lib.ListN.{length}

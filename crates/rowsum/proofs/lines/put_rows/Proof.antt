@@ -1,4 +1,4 @@
--- `rowsum::lines::put_rows` meets its contract. The loop's invariant: the lines of the rows below row are written, and the last one's sum stands in sum. Assumes nothing.
+-- `rowsum::lines::put_rows` meets its contract. The loop's invariant: the lines of the rows below row are written, and the last one's sum stands in sum.
 use mathlib.Core.Path.{_≡_, ap, _∙_}
 use Prim.Native.Nat.{ℕ, _+_, _≤_, _-_}
 use native.Mathlib.Omega.{arith}

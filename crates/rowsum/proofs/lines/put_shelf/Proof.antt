@@ -1,4 +1,4 @@
--- `rowsum::lines::put_shelf` meets its contract. Assumes nothing.
+-- `rowsum::lines::put_shelf` meets its contract.
 use native.Mathlib.Omega.{arith}
 use borrow.Author.Needs.{needs}
 use Rattle.text.specs.Room.{fits, unfitted}

@@ -1,4 +1,4 @@
--- `rowsum::sum::add_drive` meets its contract. Assumes nothing.
+-- `rowsum::sum::add_drive` meets its contract.
 use mathlib.Core.Path.{ap₂, sym, ap, _∙_}
 use mathlib.Core.Bool.{Bool, cond}
 use mathlib.Core.List.{[]}

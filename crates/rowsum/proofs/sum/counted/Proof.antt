@@ -1,4 +1,4 @@
--- `rowsum::sum::counted` meets its contract. Assumes nothing.
+-- `rowsum::sum::counted` meets its contract.
 use mathlib.Core.Path.{sym}
 use Rattle.sums.specs.Counts.{counts-all}
 use Rattle.rowsum.proofs.sum.counted.Statement.{statement}

@@ -1,4 +1,4 @@
--- `rowsum::sum::row_sum` meets its contract. The loop's invariant: the drives below drive are XORed into zeros. Assumes nothing.
+-- `rowsum::sum::row_sum` meets its contract. The loop's invariant: the drives below drive are XORed into zeros.
 use mathlib.Core.Path.{_≡_, ap, _∙_}
 use Prim.Native.Nat.{ℕ, _≤_, _-_}
 use native.Mathlib.Omega.{arith}

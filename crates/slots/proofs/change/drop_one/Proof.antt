@@ -1,4 +1,4 @@
--- `slots::change::drop_one` meets its contract. Its facts are named, not sought: a search reads every place of the code. Assumes nothing.
+-- `slots::change::drop_one` meets its contract. Its facts are named, not sought: a search reads every place of the code.
 use mathlib.Core.Path.{refl, _∙_}
 use Rattle.slots.specs.Turns.{drop-hit, drop-miss}
 use Rattle.slots.proofs.change.drop_one.Statement.{statement}

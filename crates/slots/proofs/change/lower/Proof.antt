@@ -1,4 +1,4 @@
--- `slots::change::lower` meets its contract. Assumes nothing.
+-- `slots::change::lower` meets its contract.
 use mathlib.Core.Path.{_≡_, _∙_}
 use Prim.Native.Nat.{_≤_, _-_}
 use native.Mathlib.Omega.{arith}

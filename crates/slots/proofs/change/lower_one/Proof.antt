@@ -1,4 +1,4 @@
--- `slots::change::lower_one` meets its contract. Its facts are named, not sought: a search reads every place of the code. Assumes nothing.
+-- `slots::change::lower_one` meets its contract. Its facts are named, not sought: a search reads every place of the code.
 use mathlib.Core.Path.{refl, _∙_}
 use Prim.Native.Nat.{zero-le}
 use native.Mathlib.Nat.{lt-of-le-of-lt}

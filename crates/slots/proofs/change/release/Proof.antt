@@ -1,4 +1,4 @@
--- `slots::change::release` meets its contract. Its facts are named, not sought: a search reads every place of the code. Assumes nothing.
+-- `slots::change::release` meets its contract. Its facts are named, not sought: a search reads every place of the code.
 use mathlib.Core.Path.{_∙_}
 use borrow.Author.Needs.{needs}
 use Rattle.geometry.specs.Frame.{framed-same}

@@ -1,4 +1,4 @@
--- `slots::change::write_record` meets its contract. Assumes nothing.
+-- `slots::change::write_record` meets its contract.
 use mathlib.Core.Path.{ap, _∙_}
 use borrow.Author.Needs.{needs}
 use Rattle.octets.specs.Put.{put}

@@ -1,11 +1,11 @@
--- `slots::find::empty_slot` meets its contract. The loop's invariant: the slots passed are used. Assumes nothing.
+-- `slots::find::empty_slot` meets its contract. The loop's invariant: the slots passed are used.
 use mathlib.Core.Path.{_≡_, sym, ap, _∙_}
 use mathlib.Core.Bool.{Bool, not}
 use Prim.Native.Nat.{_≤_, _-_}
 use borrow.Author.Needs.{needs}
 use borrow.Author.Tests.{eq-eqb, ne-eqb}
-use Rattle.rules.specs.declared.Found.the-variants.{Nothing}
-use Rattle.rules.specs.Least.{leastBelow, least-start, least-more, least-stop, least-done}
+use Rattle.folds.specs.declared.Found.the-variants.{Nothing}
+use Rattle.folds.specs.Least.{leastBelow, least-start, least-more, least-stop, least-done}
 use Rattle.slots.specs.declared.Slot.{Slot}
 use Rattle.slots.specs.Record.{slotOf, isUsed}
 use Rattle.slots.specs.Find.{emptySlot}

@@ -1,4 +1,4 @@
--- `slots::find::newest` meets its contract. Assumes nothing.
+-- `slots::find::newest` meets its contract.
 use mathlib.Core.Path.{_≡_, _∙_}
 use Prim.Native.Nat.{_≤_, _-_}
 use borrow.Author.Needs.{needs}

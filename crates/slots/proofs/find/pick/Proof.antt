@@ -1,4 +1,4 @@
--- `slots::find::pick` meets its contract. Assumes nothing.
+-- `slots::find::pick` meets its contract.
 use Rattle.slots.specs.Turns.{better-not, better-newer}
 use Rattle.slots.proofs.find.pick.Statement.{statement}
 use Rattle.slots.proofs.find.pick.Tie as tie

@@ -1,8 +1,8 @@
--- `slots::judge::each_ok` meets its contract. The loop's invariant: ok says whether the slots passed are right. Assumes nothing.
+-- `slots::judge::each_ok` meets its contract. The loop's invariant: ok says whether the slots passed are right.
 use mathlib.Core.Path.{_≡_, sym, ap, _∙_}
 use Prim.Native.Nat.{_≤_, _-_}
 use borrow.Author.Needs.{needs}
-use Rattle.rules.specs.All.{allBelow, all-none, all-turn, all-end}
+use Rattle.folds.specs.All.{allBelow, all-none, all-turn, all-end}
 use Rattle.slots.specs.Record.{slotOf}
 use Rattle.slots.specs.Slots.{slotOk, eachOk}
 use Rattle.slots.proofs.judge.each_ok.Statement.{statement}

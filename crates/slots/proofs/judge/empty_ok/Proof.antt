@@ -1,5 +1,5 @@
--- `slots::judge::empty_ok` meets its contract. Assumes nothing.
-use Rattle.rules.specs.Every.{every-joined}
+-- `slots::judge::empty_ok` meets its contract.
+use Rattle.folds.specs.Every.{every-joined}
 use Rattle.slots.proofs.judge.empty_ok.Statement.{statement}
 use Rattle.slots.proofs.judge.empty_ok.Tie as tie
 

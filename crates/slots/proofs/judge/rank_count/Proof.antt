@@ -1,12 +1,12 @@
--- `slots::judge::rank_count` meets its contract. The loop's invariant: k is the count of the slots passed. Assumes nothing.
+-- `slots::judge::rank_count` meets its contract. The loop's invariant: k is the count of the slots passed.
 use mathlib.Core.Path.{_≡_, sym, ap, _∙_}
 use mathlib.Core.List.{[], _∷_}
 use Prim.Native.Nat.{_≤_, _-_}
 use native.Mathlib.Omega.{arith}
 use lib.Dec.{eqb}
 use borrow.Author.Needs.{needs}
-use Rattle.rules.specs.Every.{every-joined}
-use Rattle.rules.specs.Count.{countBelow, count-none, count-turn, count-done}
+use Rattle.folds.specs.Every.{every-joined}
+use Rattle.folds.specs.Count.{countBelow, count-none, count-turn, count-done}
 use Rattle.slots.specs.Record.{slotOf, isUsed}
 use Rattle.slots.specs.Slots.{hasRank}
 use Rattle.slots.proofs.judge.rank_count.Statement.{statement}

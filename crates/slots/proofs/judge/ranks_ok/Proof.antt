@@ -1,9 +1,9 @@
--- `slots::judge::ranks_ok` meets its contract. The loop's invariant: ok says whether each rank passed is one slot's. Assumes nothing.
+-- `slots::judge::ranks_ok` meets its contract. The loop's invariant: ok says whether each rank passed is one slot's.
 use mathlib.Core.Path.{_≡_, sym, ap}
 use Prim.Native.Nat.{ℕ, _≤_, _-_, _+_}
 use lib.Dec.{eqb}
 use borrow.Author.Needs.{needs}
-use Rattle.rules.specs.All.{allBelow, all-none, all-turn, all-end}
+use Rattle.folds.specs.All.{allBelow, all-none, all-turn, all-end}
 use Rattle.slots.specs.Slots.{rankCount, ranksOk}
 use Rattle.slots.proofs.judge.ranks_ok.Statement.{statement}
 use Rattle.slots.proofs.judge.ranks_ok.Tie as tie

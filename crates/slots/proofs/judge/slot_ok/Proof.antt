@@ -1,6 +1,6 @@
--- `slots::judge::slot_ok` meets its contract. Assumes nothing.
+-- `slots::judge::slot_ok` meets its contract.
 use borrow.Author.Needs.{needs}
-use Rattle.rules.specs.Tests.{tests}
+use Rattle.folds.specs.Tests.{tests}
 use Rattle.slots.specs.Slots.{slotOk}
 use Rattle.slots.proofs.judge.slot_ok.Statement.{statement}
 use Rattle.slots.proofs.judge.slot_ok.Tie as tie

@@ -1,8 +1,8 @@
--- `slots::judge::slots_ok` meets its contract. Assumes nothing.
+-- `slots::judge::slots_ok` meets its contract.
 use mathlib.Core.Path.{ap, ap₂, _∙_}
 use mathlib.Core.Bool.{_&&_}
 use borrow.Author.Needs.{needs}
-use Rattle.rules.specs.Every.{every-joined}
+use Rattle.folds.specs.Every.{every-joined}
 use Rattle.slots.specs.Slots.{eachOk, ranksOk, slotsOk}
 use Rattle.slots.proofs.judge.slots_ok.Statement.{statement}
 use Rattle.slots.proofs.judge.slots_ok.Tie as tie

@@ -1,9 +1,9 @@
--- `slots::judge::used_count` meets its contract. The loop's invariant: k is the count of the slots passed. Assumes nothing.
+-- `slots::judge::used_count` meets its contract. The loop's invariant: k is the count of the slots passed.
 use mathlib.Core.Path.{_≡_, sym, ap}
 use Prim.Native.Nat.{_≤_, _-_}
 use native.Mathlib.Omega.{arith}
 use borrow.Author.Needs.{needs}
-use Rattle.rules.specs.Count.{countBelow, count-none, count-turn, count-done}
+use Rattle.folds.specs.Count.{countBelow, count-none, count-turn, count-done}
 use Rattle.slots.specs.Record.{slotOf, isUsed}
 use Rattle.slots.proofs.judge.used_count.Statement.{statement}
 use Rattle.slots.proofs.judge.used_count.Tie as tie

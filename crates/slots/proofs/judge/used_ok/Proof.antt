@@ -1,6 +1,6 @@
--- `slots::judge::used_ok` meets its contract. Assumes nothing.
+-- `slots::judge::used_ok` meets its contract.
 use native.Mathlib.Omega.{arith}
-use Rattle.rules.specs.Every.{every-joined}
+use Rattle.folds.specs.Every.{every-joined}
 use Rattle.slots.proofs.judge.used_ok.Statement.{statement}
 use Rattle.slots.proofs.judge.used_ok.Tie as tie
 

@@ -1,6 +1,0 @@
--- The contract of each public function of `image` allows one outcome only. Assumes nothing.
-use Rattle.image.proofs as image
-use Rattle.once.specs.Only.{Only, equation}
-
-pub valid-once : Only image.valid.Reads.Post (λ _ r _. r)
-valid-once = equation
