@@ -28,7 +28,7 @@ use Rattle.image.specs.Bench.{zeros, shelfOf, vacant, holding, one, two, three,
 use Rattle.command.specs.declared.Op.the-variants.{XpWrite}
 use Rattle.command.specs.Lossless.{cdbOf}
 use Rattle.meaning.specs.Allowed.{Blocks}
-use Rattle.meaning.specs.Cases.{parity, left, xdwrite, tenWith, ten, listCdb, head, sourceBytes, room}
+use Rattle.meaning.specs.Examples.Cases.{parity, left, xdwrite, tenWith, ten, listCdb, head, sourceBytes, room}
 use Rattle.callers.specs.Bytes.{readCdb, writeCdb, xpwriteCdb, xdreadCdb, xdwriteTenCdb, xdwritereadCdb, xdwriteCdb, rebuildCdb, regenerateCdb, codes-say}
 use Rattle.callers.specs.Lists.{source, listOf}
 use Rattle.callers.specs.Does.{blocks, Does, Target}

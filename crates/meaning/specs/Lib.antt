@@ -8,9 +8,4 @@ pub mod Step
 pub mod Stepped
 pub mod Codes
 pub mod Calls
-pub mod Row
-pub mod Cases
-pub mod Several
-pub mod Further
-pub mod Published
-pub mod Tables
+pub mod Examples

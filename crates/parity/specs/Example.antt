@@ -42,7 +42,7 @@ use Rattle.meaning.specs.Sources.{ownEntry, driveBad, entryBad, firstBad}
 use Rattle.meaning.specs.Checks.{decideOf}
 use Rattle.meaning.specs.Step.{stepImage, stepOutcome, resetImage, markImage}
 use Rattle.meaning.specs.Calls.{Call, command, reset, marking, afterCall, afterCalls}
-use Rattle.meaning.specs.Cases.{left, xdwrite, ten, room}
+use Rattle.meaning.specs.Examples.Cases.{left, xdwrite, ten, room}
 use Rattle.parity.specs.Ledger.{Read, Dropped, Carried, Line, line, Carries, fair-front, Fair, ledger}
 use Rattle.parity.specs.Owed.{isOwed, inRow, owed}
 use Rattle.parity.specs.AnyStep.{Start, NothingOwed, AllPresent, Whole, Overwriting, theStep, rebuilt, done}

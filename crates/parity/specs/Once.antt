@@ -27,7 +27,7 @@ use Rattle.command.specs.Command.{opOf, sixteenOf, tenOf}
 use Rattle.meaning.specs.Checks.{decideOf}
 use Rattle.meaning.specs.Step.{stepImage}
 use Rattle.meaning.specs.Calls.{Call, command, afterCalls}
-use Rattle.meaning.specs.Cases.{xdwrite, ten, room}
+use Rattle.meaning.specs.Examples.Cases.{xdwrite, ten, room}
 use Rattle.parity.specs.Ledger.{Fate, Read, Carried, Line, line, Fair, ledger}
 use Rattle.parity.specs.Owed.{owed, carries-none}
 use Rattle.parity.specs.Example.{ofFirst, third, carryBy, carries}

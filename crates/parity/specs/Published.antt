@@ -30,7 +30,7 @@ use Rattle.command.specs.Command.{opOf, tenOf}
 use Rattle.meaning.specs.Checks.{decideOf}
 use Rattle.meaning.specs.Step.{stepImage}
 use Rattle.meaning.specs.Calls.{Call, command, afterCall, afterCalls}
-use Rattle.meaning.specs.Cases.{left, tenWith, ten, room}
+use Rattle.meaning.specs.Examples.Cases.{left, tenWith, ten, room}
 use Rattle.parity.specs.Ledger.{Fate, Read, Carried, Line, line, fair-front, Fair, ledger}
 use Rattle.parity.specs.Owed.{owed, carries-none}
 use Rattle.parity.specs.AnyStep.{NothingOwed, AllPresent, Whole, theStep, rebuilt, BringsBack}

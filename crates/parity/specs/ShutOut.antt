@@ -45,7 +45,7 @@ use Rattle.meaning.specs.Sources.{ownEntry, driveBad, entryBad, firstBad}
 use Rattle.meaning.specs.Checks.{decideOf}
 use Rattle.meaning.specs.Step.{decided, stepOutcome}
 use Rattle.meaning.specs.Calls.{Call, command}
-use Rattle.meaning.specs.Cases.{xdwrite, tenWith, ten, room}
+use Rattle.meaning.specs.Examples.Cases.{xdwrite, tenWith, ten, room}
 use Rattle.parity.specs.Owed.{owed}
 use Rattle.parity.specs.AnyStep.{AnyStep, done, callBy, Start, SumsDiffer, AllPresent, Whole, Restores}
 use Rattle.parity.specs.Example.{bench-start, bench-zero, present, carried, junk, both-rows}

@@ -22,8 +22,8 @@ use Rattle.sense.specs.declared.Answer.{Answer}
 use Rattle.sense.specs.declared.Outcome.{Outcome}
 use Rattle.sense.specs.Answers.{numberOf}
 use Rattle.meaning.specs.Step.{resetAnswer, resetImage, markAnswer, markImage}
-use Rattle.meaning.specs.Row.{Showed}
-use Rattle.meaning.specs.Cases.{left, xdwrite, room}
+use Rattle.meaning.specs.Examples.Row.{Showed}
+use Rattle.meaning.specs.Examples.Cases.{left, xdwrite, room}
 use Rattle.meaning.specs.Stepped.{Stepped, Reset, Marked}
 use Rattle.shut_out.specs.Step.{example}
 

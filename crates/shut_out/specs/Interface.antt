@@ -9,8 +9,8 @@ use Rattle.image.specs.Bench.{zeros, shelfOf, vacant, one, two, three, bench, f
 use Rattle.sense.specs.Answers.{numberOf}
 use Rattle.meaning.specs.Step.{stepOutcome, resetAnswer, resetImage, markAnswer, markImage}
 use Rattle.meaning.specs.Calls.{afterCalls}
-use Rattle.meaning.specs.Cases.{xdwrite, xdwriteTo, ten, listCdb, head, sourceBytes, room}
-use Rattle.meaning.specs.Several.{start, pair, empty, letter, keep, twice, again}
+use Rattle.meaning.specs.Examples.Cases.{xdwrite, xdwriteTo, ten, listCdb, head, sourceBytes, room}
+use Rattle.meaning.specs.Examples.Several.{start, pair, empty, letter, keep, twice, again}
 use Rattle.meaning.specs.Stepped.{Stepped, Reset, Marked}
 use Rattle.shelf_c.specs.Interface.{short, StepCall}
 use Rattle.shut_out.specs.Step as step

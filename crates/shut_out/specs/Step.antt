@@ -10,11 +10,11 @@ use Rattle.sense.specs.declared.Outcome.{Outcome}
 use Rattle.sense.specs.Answers.{numberOf}
 use Rattle.meaning.specs.Calls.{afterCalls}
 use Rattle.meaning.specs.Step.{stepRoom}
-use Rattle.meaning.specs.Row.{Showed, Row, got, quiet}
-use Rattle.meaning.specs.Cases.{xdwrite, xdwriteTo, ten, listCdb, head, sourceBytes, room, table}
-use Rattle.meaning.specs.Several.{several, start, pair, empty, letter, keep, twice, again}
-use Rattle.meaning.specs.Further as further
-use Rattle.meaning.specs.Tables.{Hold, cases, several-cases, further-cases}
+use Rattle.meaning.specs.Examples.Row.{Showed, Row, got, quiet}
+use Rattle.meaning.specs.Examples.Cases.{xdwrite, xdwriteTo, ten, listCdb, head, sourceBytes, room, table}
+use Rattle.meaning.specs.Examples.Several.{several, start, pair, empty, letter, keep, twice, again}
+use Rattle.meaning.specs.Examples.Further as further
+use Rattle.meaning.specs.Examples.Tables.{Hold, cases, several-cases, further-cases}
 use Rattle.meaning.specs.Stepped.{Stepped}
 
 -- ---- the calls to tell them by

@@ -3,10 +3,10 @@ use Prim.Native.Nat.{ℕ}
 use mathlib.Core.List.{List, [], _∷_, _++_}
 use lib.ListN.{replicate}
 use Rattle.meaning.specs.Calls.{Call, command, reset}
-use Rattle.meaning.specs.Row.{Showed, Row, quiet, refused}
+use Rattle.meaning.specs.Examples.Row.{Showed, Row, quiet, refused}
 use Rattle.image.specs.Bench.{four, zeros, fresh, result}
-use Rattle.meaning.specs.Cases.{ten, room}
-use Rattle.meaning.specs.Cases.{row as command-row}
+use Rattle.meaning.specs.Examples.Cases.{ten, room}
+use Rattle.meaning.specs.Examples.Cases.{row as command-row}
 
 -- a record, and an empty one
 abbrev held : ℕ → ℕ → ℕ → ℕ → ℕ → List ℕ

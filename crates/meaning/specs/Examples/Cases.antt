@@ -4,7 +4,7 @@ use mathlib.Core.List.{List, [], _∷_, _++_}
 use lib.ListN.{replicate}
 use Rattle.image.specs.Bench.{four, zeros, shelfOf, vacant, holding, one, two, three, bench, fresh, result, afterC2}
 use Rattle.meaning.specs.Calls.{Call, command}
-use Rattle.meaning.specs.Row.{Showed, Row, quiet, refused, nested}
+use Rattle.meaning.specs.Examples.Row.{Showed, Row, quiet, refused, nested}
 
 -- drive 3's block with C1's result
 abbrev pub parity : List ℕ

@@ -4,9 +4,9 @@ use Prim.Native.Nat.{ℕ}
 use mathlib.Core.List.{List, [], _∷_, _++_}
 use Rattle.octets.specs.Put.{put}
 use Rattle.image.specs.Bench.{four, zeros, shelfOf, vacant, holding, one, two, three, bench, fresh}
-use Rattle.meaning.specs.Row.{Row, quiet, refused, absent, nested}
-use Rattle.meaning.specs.Cases.{xdwrite, xdwriteTo, ten, listWith, listCdb, headAt, head, sourceBytes, room, row}
-use Rattle.meaning.specs.Several.{letter}
+use Rattle.meaning.specs.Examples.Row.{Row, quiet, refused, absent, nested}
+use Rattle.meaning.specs.Examples.Cases.{xdwrite, xdwriteTo, ten, listWith, listCdb, headAt, head, sourceBytes, room, row}
+use Rattle.meaning.specs.Examples.Several.{letter}
 
 -- a command to drive 1 of the bench shelf that leaves this image, or is refused
 abbrev does : List ℕ → List ℕ → List ℕ → Row

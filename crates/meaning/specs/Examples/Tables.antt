@@ -23,11 +23,11 @@ use Rattle.meaning.specs.Acts.{sourcesFrom, gathered}
 use Rattle.meaning.specs.Sources.{ownEntry, driveBad, entryBad, firstBad}
 use Rattle.meaning.specs.Checks.{decideOf}
 use Rattle.meaning.specs.Step.{stepImage, stepRoom, stepOutcome, resetImage, resetAnswer, markImage, markAnswer}
-use Rattle.meaning.specs.Row.{Row, got}
-use Rattle.meaning.specs.Cases.{table}
-use Rattle.meaning.specs.Several.{several}
-use Rattle.meaning.specs.Further as further
-use Rattle.meaning.specs.Published.{works, refusals}
+use Rattle.meaning.specs.Examples.Row.{Row, got}
+use Rattle.meaning.specs.Examples.Cases.{table}
+use Rattle.meaning.specs.Examples.Several.{several}
+use Rattle.meaning.specs.Examples.Further as further
+use Rattle.meaning.specs.Examples.Published.{works, refusals}
 
 -- every row shows what it should
 abbrev pub Hold : List Row → Type 0

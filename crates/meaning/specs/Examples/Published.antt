@@ -4,8 +4,8 @@ use mathlib.Core.List.{List, [], _∷_, _++_}
 use lib.ListN.{replicate}
 use Rattle.image.specs.Bench.{zeros, shelfOf, vacant, holding, one, two, three, bench, fresh, result, afterC2}
 use Rattle.meaning.specs.Calls.{Call, command}
-use Rattle.meaning.specs.Row.{Row, quiet, refused}
-use Rattle.meaning.specs.Cases.{parity, left, xdwrite, tenWith, ten, room, row, c2}
+use Rattle.meaning.specs.Examples.Row.{Row, quiet, refused}
+use Rattle.meaning.specs.Examples.Cases.{parity, left, xdwrite, tenWith, ten, room, row, c2}
 
 -- block 0 of drive 1 written by 50h, and read by XDREAD of either set
 abbrev kept : Call
