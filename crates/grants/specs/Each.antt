@@ -1,4 +1,4 @@
--- What the checks of each command grant, by their places in its list.
+-- What the checks of each command grant, stage by stage.
 use Prim.Native.Nat.{ℕ, _+_, _*_, _≤_, _<_}
 use native.Mathlib.Omega.{arith}
 use mathlib.Core.Bool.{Bool, true, false, cond, not, _&&_}
@@ -33,9 +33,9 @@ use Rattle.meaning.specs.declared.Seen.{Seen}
 use Rattle.meaning.specs.declared.Fault.the-variants.{Clear}
 use Rattle.meaning.specs.declared.Decision.the-variants.{Stop, Go}
 use Rattle.meaning.specs.Sources.{ownEntry, firstBad}
-use Rattle.meaning.specs.Checks.{isNothing, commandChecks, acts, resolved, spanOf, secondOf}
+use Rattle.meaning.specs.Checks.{isNothing, acts, resolved, spanOf, secondOf}
 use Rattle.meaning.specs.Allowed.{Blocks, Held, Free, empty-free, Sourced, Allowed}
-use Rattle.grants.specs.Passed.{Passes, not-zero, with-it, without-it, found, nothing, elsewhere, clear}
+use Rattle.grants.specs.Passed.{not-zero, with-it, without-it, found, elsewhere, clear, Passed, SecondFields, second-fields, ListRead, list-read}
 use Rattle.grants.specs.Entries.{entries}
 
 -- the drive that an act works on
@@ -83,63 +83,65 @@ module _ (m : List ℕ) (g : Geometry) (t : ℕ) (s : List ℕ) (r : ℕ) (v : S
   free : isNothing (emptySlot m g) ≡ false → Free m g (index (emptySlot m g))
   free e = empty-free m g _ (found (emptySlot m g) e)
 
-  of-read : (k : Command) → Passes (commandChecks Read m g t k s r) → acts Read m g t k s ≡ Go x y → Grants m g t s r x y
-  of-read k p e = just m g t s r x _ y e refl (own k (not-zero _ (p 4)) (ltb-false _ _ (p 5)), ltb-false _ _ (p 6))
+  of-read : (k : Command) → Passed Read m g t k s r → acts Read m g t k s ≡ Go x y → Grants m g t s r x y
+  of-read k p e = just m g t s r x _ y e refl (own k (not-zero _ (p .idle-pass .0)) (ltb-false _ _ (p .range-pass .0)), ltb-false _ _ (p .room-pass .0))
 
-  of-write : (k : Command) → Passes (commandChecks Write m g t k s r) → acts Write m g t k s ≡ Go x y → Grants m g t s r x y
-  of-write k p e = just m g t s r x _ y e refl (own k (not-zero _ (p 4)) (ltb-false _ _ (p 5)), eqb-true _ _ (not-false _ (p 3)))
+  of-write : (k : Command) → Passed Write m g t k s r → acts Write m g t k s ≡ Go x y → Grants m g t s r x y
+  of-write k p e = just m g t s r x _ y e refl (own k (not-zero _ (p .idle-pass .0)) (ltb-false _ _ (p .range-pass .0)), p .sent)
 
-  of-xpwrite : (k : Command) → Passes (commandChecks XpWrite m g t k s r) → acts XpWrite m g t k s ≡ Go x y → Grants m g t s r x y
-  of-xpwrite k p e = just m g t s r x _ y e refl (own k (not-zero _ (p 5)) (ltb-false _ _ (p 6)), eqb-true _ _ (not-false _ (p 4)))
+  of-xpwrite : (k : Command) → Passed XpWrite m g t k s r → acts XpWrite m g t k s ≡ Go x y → Grants m g t s r x y
+  of-xpwrite k p e = just m g t s r x _ y e refl (own k (not-zero _ (p .idle-pass .0)) (ltb-false _ _ (p .range-pass .0)), p .sent)
 
-  of-xdread : (k : Command) → Passes (commandChecks XdRead m g t k s r) → acts XdRead m g t k s ≡ Go x y → Grants m g t s r x y
+  of-xdread : (k : Command) → Passed XdRead m g t k s r → acts XdRead m g t k s ≡ Go x y → Grants m g t s r x y
   of-xdread k p e =
       just m g t s r x _ y e refl
-      (held-at m g v (spanOf t k) _ (found (newestOf m g t (k .block .0)) (p 4)) (eqb-true _ _ (not-false _ (p 5))), ltb-false _ _ (p 6))
+      (held-at m g v (spanOf t k) _ (found (newestOf m g t (k .block .0)) (p .range-pass .0)) (eqb-true _ _ (not-false _ (p .range-pass .1 .0))), ltb-false _ _ (p .room-pass .0))
 
   -- with Sec Ctl 11, and without
-  of-xdwrite : (k : Command) → Passes (commandChecks XdWrite m g t k s r) → acts XdWrite m g t k s ≡ Go x y → Grants m g t s r x y
+  of-xdwrite : (k : Command) → Passed XdWrite m g t k s r → acts XdWrite m g t k s ≡ Go x y → Grants m g t s r x y
   of-xdwrite k p e = pick (eqb (secOf k) 3) refl e
     where
+      f : SecondFields m g t k
+      f = second-fields m g t k (p .fields-pass)
+
       pick : (b : Bool) → eqb (secOf k) 3 ≡ b
           → cond b (Go (Retain (spanOf t k) (index (emptySlot m g)) (mirrorOf k) (ndiscOf k)) Good)
           (Go (Couple (spanOf t k) (secondOf (driveOf m g (k .second .0)) k) (mirrorOf k)) Good) ≡ Go x y
           → Grants m g t s r x y
       pick true q e =
           just m g t s r x _ y e refl
-          (own k (not-zero _ (p 7)) (ltb-false _ _ (p 8)), eqb-true _ _ (not-false _ (p 6)), ltb-false _ _ (p 3), free (with-it (eqb (secOf k) 3) _ q (p 9)))
+          (own k (not-zero _ (p .idle-pass .0)) (ltb-false _ _ (p .range-pass .0)), p .sent, f .at-most, free (with-it (eqb (secOf k) 3) _ q (p .busy-pass .0)))
       pick false q e =
           let unless : (z : Bool) → (not (eqb (secOf k) 3) && z) ≡ false → z ≡ false = (λ z h. without-it (eqb (secOf k) 3) z q h) in
-          let f = found (driveOf m g (k .second .0)) (unless _ (p 10)) in
+          let there-is = found (driveOf m g (k .second .0)) (unless _ (p .nested-pass .0)) in
           let there : Range g (index (driveOf m g (k .second .0))) (k .spot .0) (k .count) =
-          record { drive-in = drive-inside m g _ _ f .0; range-in = ltb-false _ _ (unless _ (p 12)) } in
+          record { drive-in = drive-inside m g _ _ there-is .0; range-in = ltb-false _ _ (unless _ (p .nested-pass .1 .1 .0)) } in
           just m g t s r x _ y e refl (
-            own k (not-zero _ (p 7)) (ltb-false _ _ (p 8)),
-            record { range = there; present = unless _ (p 11); some = not-zero _ (p 7) },
+            own k (not-zero _ (p .idle-pass .0)) (ltb-false _ _ (p .range-pass .0)),
+            record { range = there; present = unless _ (p .nested-pass .1 .0); some = not-zero _ (p .idle-pass .0) },
             refl,
-            (λ h. elsewhere _ _ t f (unless _ (p 4)) (sym h)),
-            eqb-true _ _ (not-false _ (p 6)),
+            (λ h. elsewhere _ _ t there-is (unless _ (f .not-own)) (sym h)),
+            p .sent,
           )
 
-  of-xdwrite-ten : (k : Command) → Passes (commandChecks XdWriteTen m g t k s r) → acts XdWriteTen m g t k s ≡ Go x y → Grants m g t s r x y
+  of-xdwrite-ten : (k : Command) → Passed XdWriteTen m g t k s r → acts XdWriteTen m g t k s ≡ Go x y → Grants m g t s r x y
   of-xdwrite-ten k p e =
-      just m g t s r x _ y e refl (own k (not-zero _ (p 5)) (ltb-false _ _ (p 6)), eqb-true _ _ (not-false _ (p 4)), ltb-false _ _ (p 2), free (p 7))
+      just m g t s r x _ y e refl (own k (not-zero _ (p .idle-pass .0)) (ltb-false _ _ (p .range-pass .0)), p .sent, ltb-false _ _ (p .fields-pass .1 .1 .0), free (p .busy-pass .0))
 
-  of-xdwriteread : (k : Command) → Passes (commandChecks XdWriteRead m g t k s r) → acts XdWriteRead m g t k s ≡ Go x y → Grants m g t s r x y
+  of-xdwriteread : (k : Command) → Passed XdWriteRead m g t k s r → acts XdWriteRead m g t k s ≡ Go x y → Grants m g t s r x y
   of-xdwriteread k p e =
-      just m g t s r x _ y e refl (own k (not-zero _ (p 5)) (ltb-false _ _ (p 6)), eqb-true _ _ (not-false _ (p 4)), ltb-false _ _ (p 7))
+      just m g t s r x _ y e refl (own k (not-zero _ (p .idle-pass .0)) (ltb-false _ _ (p .range-pass .0)), p .sent, ltb-false _ _ (p .room-pass .0))
 
   module _ (k : Command) where
     -- the list and what follows it
-    sourced : length s ≡ listBytes k (g .l) → eqb (k .list) 0 ≡ false → k .list ≡ 8 + 8 * getD s 0 0 → eqb (getD s 0 0) 0 ≡ false
-        → ownEntry m g s (getD s 0 0) t ≡ Nothing → firstBad m g s (resolved g k s .count) 0 (getD s 0 0) ≡ Clear
+    sourced : length s ≡ listBytes k (g .l) → eqb (k .list) 0 ≡ false → ListRead m g t k s → firstBad m g s (resolved g k s .count) 0 (getD s 0 0) ≡ Clear
         → (eqb (intOf k) 0 ≡ false → resolved g k s .count ≡ k .count)
         → Sourced m g (spanOf t (resolved g k s)) (getD s 0 0) (intOf k) s
-    sourced len list size some none bad same =
+    sourced len list l bad same =
         record {
-          some-source = not-zero _ some;
-          exact = sent-exact k (g .l) (getD s 0 0) _ (length s) len (eqb-false _ _ list) size same;
-          each = entries m g s (spanOf t (resolved g k s)) (getD s 0 0) bad none;
+          some-source = not-zero _ (l .some-source);
+          exact = sent-exact k (g .l) (getD s 0 0) _ (length s) len (eqb-false _ _ list) (l .as-long) same;
+          each = entries m g s (spanOf t (resolved g k s)) (getD s 0 0) bad (l .none-own);
         }
 
     -- the target's blocks, from the list's own block on
@@ -147,29 +149,31 @@ module _ (m : List ℕ) (g : Geometry) (t : ℕ) (s : List ℕ) (r : ℕ) (v : S
     unfolding resolvedOf ownOf
     listed h l = own (resolved g k s) (resolved-some (k .count) (be 4 s 4) (g .b) (eqb-false _ _ h)) l
 
-    of-rebuild : Passes (commandChecks Rebuild m g t k s r) → acts Rebuild m g t k s ≡ Go x y → Grants m g t s r x y
+    of-rebuild : Passed Rebuild m g t k s r → acts Rebuild m g t k s ≡ Go x y → Grants m g t s r x y
     unfolding resolvedOf ownOf
     of-rebuild p e =
+        let l = list-read m g t k s (p .list-pass) in
         just m g t s r x _ y e refl (
-          listed (p 14) (ltb-false _ _ (p 15)),
-          sourced (eqb-true _ _ (not-false _ (p 6))) (p 7) (eqb-true _ _ (not-false _ (p 9))) (p 10) (nothing _ (p 13)) (clear _ (p 16))
-              (λ h. resolved-same (k .count) (be 4 s 4) (g .b) (eqb-false _ _ (without-it (eqb (intOf k) 0) _ h (p 3)))),
+          listed (l .some-block) (ltb-false _ _ (p .range-pass .0)),
+          sourced (p .sent) (p .idle-pass .0) l (clear _ (p .nested-pass .0))
+              (λ h. resolved-same (k .count) (be 4 s 4) (g .b) (eqb-false _ _ (without-it (eqb (intOf k) 0) _ h (p .fields-pass .1 .1 .1 .0)))),
         )
 
-    of-regenerate : Passes (commandChecks Regenerate m g t k s r) → acts Regenerate m g t k s ≡ Go x y → Grants m g t s r x y
+    of-regenerate : Passed Regenerate m g t k s r → acts Regenerate m g t k s ≡ Go x y → Grants m g t s r x y
     unfolding resolvedOf ownOf
     of-regenerate p e =
-        let low : k .count ≤ g .m = ltb-false _ _ (p 3) in
+        let l = list-read m g t k s (p .list-pass) in
+        let low : k .count ≤ g .m = ltb-false _ _ (p .fields-pass .1 .1 .1 .0) in
         let small : g .m ≤ 256 = shelf-frame m g v .placed .ranges .m-high in
         let same : resolvedCount (k .count) (be 4 s 4) (g .b) ≡ k .count = resolved-same (k .count) (be 4 s 4) (g .b) (λ h. omega arith) in
         just m g t s r x _ y e refl (
-          listed (p 14) (ltb-false _ _ (p 15)),
-          sourced (eqb-true _ _ (not-false _ (p 6))) (p 7) (eqb-true _ _ (not-false _ (p 9))) (p 10) (nothing _ (p 13)) (clear _ (p 17)) (λ h. same),
+          listed (l .some-block) (ltb-false _ _ (p .range-pass .0)),
+          sourced (p .sent) (p .idle-pass .0) l (clear _ (p .nested-pass .0)) (λ h. same),
           omega (arith, same),
-          free (p 16),
+          free (p .busy-pass .0),
         )
 
-  pub of-each : (o : Op) (k : Command) → Passes (commandChecks o m g t k s r) → acts o m g t k s ≡ Go x y → Grants m g t s r x y
+  pub of-each : (o : Op) (k : Command) → Passed o m g t k s r → acts o m g t k s ≡ Go x y → Grants m g t s r x y
   of-each XdWrite k p e = of-xdwrite k p e
   of-each XpWrite k p e = of-xpwrite k p e
   of-each XdRead k p e = of-xdread k p e

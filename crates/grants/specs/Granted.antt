@@ -19,7 +19,7 @@ use Rattle.meaning.specs.declared.Act.{Act}
 use Rattle.meaning.specs.declared.Decision.the-variants.{Stop, Go}
 use Rattle.meaning.specs.Checks.{commandChecks, checks, carriedOut, decideOf}
 use Rattle.meaning.specs.Allowed.{Allowed}
-use Rattle.grants.specs.Passed.{passes, found}
+use Rattle.grants.specs.Passed.{passed-by, found}
 use Rattle.grants.specs.Each.{worksOn, no-stop, of-each}
 
 -- what a decision to do x and answer y says: image m, target address a, data-out bytes s, r bytes of receive room
@@ -41,7 +41,7 @@ granted m a c s r x y e =
     let f = found (driveOf m g a) (p .1 .0) in
     let t = index (driveOf m g a) in
     let k = commandOf o c in
-    let all = passes (commandChecks o m g t k s r) (p .1 .1 .1 .1 .1 .1) in
+    let all = passed-by o m g t k s r (p .1 .1 .1 .1 .1 .1) in
     let h = of-each m g t s r v (drive-inside m g a t f .0) (p .1 .1 .1 .1 .1 .0) x y o k all (w .1) in
     record { good = h .good; valid = v; target = f ∙ ap At (sym (h .drive)); allowed = h .allowed }
 

@@ -1,29 +1,28 @@
--- What a check that has passed says.
-use Prim.Native.Nat.{ℕ, _≤_}
+-- What checks that have passed say.
+use Prim.Native.Nat.{ℕ, _+_, _*_, _≤_}
 use native.Mathlib.Omega.{arith}
 use mathlib.Core.Bool.{Bool, true, false, not, _&&_}
-use mathlib.Core.List.{List}
+use mathlib.Core.List.{List, [], _∷_, _++_}
 use mathlib.Core.Path.{_≡_, refl}
 use lib.Dec.{eqb}
-use lib.ListN.{getD}
-use borrow.Author.Tests.{eqb-false}
+use lib.ListN.{length, getD}
+use borrow.Author.Tests.{eqb-true, eqb-false, ltb-false, not-false}
 use Rattle.folds.specs.declared.Found.{Found}
 use Rattle.folds.specs.declared.Found.the-variants.{At, Nothing}
-use Rattle.rules.specs.Rule.{rule, applies, AllPass, pass-at}
 use Rattle.folds.specs.Least.{index}
-use Rattle.sense.specs.declared.Answer.the-variants.{Good}
-use Rattle.meaning.specs.declared.Seen.the-variants.{Dash}
+use Rattle.rules.specs.Rule.{rule, AllPass, pass-both}
+use Rattle.geometry.specs.declared.Geometry.{Geometry}
+use Rattle.drives.specs.Table.{driveOf}
+use Rattle.sense.specs.declared.Answer.the-variants.{Good, WrongCount}
+use Rattle.command.specs.declared.Op.{Op}
+use Rattle.command.specs.declared.Op.the-variants.{XdWrite}
+use Rattle.command.specs.declared.Command.{Command}
+use Rattle.command.specs.Command.{secOf}
 use Rattle.meaning.specs.declared.Fault.{Fault}
 use Rattle.meaning.specs.declared.Fault.the-variants.{Clear, Absent, Failed, Beyond}
-use Rattle.meaning.specs.Sources.{isAt}
-use Rattle.meaning.specs.Checks.{Check, isNothing, isFault}
-
--- no check applies, by its place in the list; past the end stands one that does not
-abbrev pub Passes : List Check → Type 0
-Passes rs = (i : ℕ) → applies (getD rs i (rule 0 Dash false Good)) ≡ false
-
-pub passes : (rs : List Check) → AllPass rs → Passes rs
-passes rs p = pass-at rs (rule 0 Dash false Good) refl p
+use Rattle.meaning.specs.declared.Seen.the-variants.{Dash, Cdb}
+use Rattle.meaning.specs.Sources.{isAt, ownEntry}
+use Rattle.meaning.specs.Checks.{isNothing, fields, sends, idle, listLength, listHead, listRules, lists, ranges, busy, nested, rooms, isFault, commandChecks}
 
 -- ---- the tests
 
@@ -57,3 +56,68 @@ clear Clear e = refl
 clear (Absent i) e = let z : _≡_ {A = ℕ} 0 1 = cc in absurd (omega arith)
 clear (Failed i k) e = let z : _≡_ {A = ℕ} 0 1 = cc in absurd (omega arith)
 clear (Beyond i) e = let z : _≡_ {A = ℕ} 0 1 = cc in absurd (omega arith)
+
+-- ---- by stage
+
+-- no check from 4 on applies, stage by stage: a check more in one stage moves no other
+pub record Passed (o : Op) (m : List ℕ) (g : Geometry) (t : ℕ) (k : Command) (s : List ℕ) (room : ℕ) : Type 0 where
+  pub fields-pass : AllPass (fields o m g t k)
+  pub sent : length s ≡ sends o g k
+  pub idle-pass : AllPass (idle o k)
+  pub list-pass : AllPass (lists o m g t k s)
+  pub range-pass : AllPass (ranges o m g t k s)
+  pub busy-pass : AllPass (busy o m g k)
+  pub nested-pass : AllPass (nested o m g k s)
+  pub room-pass : AllPass (rooms o g k room)
+
+pub passed-by : (o : Op) (m : List ℕ) (g : Geometry) (t : ℕ) (k : Command) (s : List ℕ) (room : ℕ) → AllPass (commandChecks o m g t k s room) → Passed o m g t k s room
+passed-by o m g t k s room p =
+    let five = rule 5 Dash (not (eqb (length s) (sends o g k))) WrongCount in
+    let to-6 = fields o m g t k ++ five ∷ idle o k in
+    let to-7 = to-6 ++ lists o m g t k s in
+    let to-8 = to-7 ++ ranges o m g t k s in
+    let to-9 = to-8 ++ busy o m g k in
+    let to-10 = to-9 ++ nested o m g k s in
+    let r = pass-both to-10 (rooms o g k room) p in
+    let n = pass-both to-9 (nested o m g k s) (r .0) in
+    let b = pass-both to-8 (busy o m g k) (n .0) in
+    let w = pass-both to-7 (ranges o m g t k s) (b .0) in
+    let l = pass-both to-6 (lists o m g t k s) (w .0) in
+    let f = pass-both (fields o m g t k) (five ∷ idle o k) (l .0) in
+    record {
+      fields-pass = f .0;
+      sent = eqb-true _ _ (not-false _ (f .1 .0));
+      idle-pass = f .1 .1;
+      list-pass = l .1;
+      range-pass = w .1;
+      busy-pass = b .1;
+      nested-pass = n .1;
+      room-pass = r .1;
+    }
+
+-- of the checks of fields, those that grant something: XDWRITE's length and secondary, the other lengths
+pub record SecondFields (m : List ℕ) (g : Geometry) (t : ℕ) (k : Command) : Type 0 where
+  pub at-most : k .count ≤ g .m
+  pub not-own : (not (eqb (secOf k) 3) && isAt t (driveOf m g (k .second .0))) ≡ false
+
+pub second-fields : (m : List ℕ) (g : Geometry) (t : ℕ) (k : Command) → AllPass (fields XdWrite m g t k) → SecondFields m g t k
+second-fields m g t k p = record { at-most = ltb-false _ _ (p .1 .1 .1 .0); not-own = p .1 .1 .1 .1 .0 }
+
+-- the list: its length, its sources, none of which is the target, and that there is something to do
+pub record ListRead (m : List ℕ) (g : Geometry) (t : ℕ) (k : Command) (s : List ℕ) : Type 0 where
+  pub as-long : k .list ≡ 8 + 8 * getD s 0 0
+  pub some-source : eqb (getD s 0 0) 0 ≡ false
+  pub none-own : ownEntry m g s (getD s 0 0) t ≡ Nothing
+  pub some-block : eqb (k .count) 0 ≡ false
+
+pub list-read : (m : List ℕ) (g : Geometry) (t : ℕ) (k : Command) (s : List ℕ) → AllPass (listRules m g t k s) → ListRead m g t k s
+list-read m g t k s p =
+    let none = rule 7 (Cdb 2) (eqb (k .count) 0) Good ∷ [] in
+    let l = pass-both (listLength k s) (listHead m g t s ++ none) p in
+    let h = pass-both (listHead m g t s) none (l .1) in
+    record {
+      as-long = eqb-true _ _ (not-false _ (l .0 .1 .0));
+      some-source = h .0 .0;
+      none-own = nothing _ (h .0 .1 .1 .1 .0);
+      some-block = h .1 .0;
+    }

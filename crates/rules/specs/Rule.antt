@@ -32,11 +32,10 @@ module _ {P A : Type 0} where
   earlier (rule n w false a ∷ rs) x zero h = refl
   earlier (rule n w false a ∷ rs) x (suc i) h = earlier rs x i (omega (arith, h))
 
-  -- where none applies: each by its place, and past the end an x that does not apply
-  pub pass-at : (rs : List (Rule P A)) (x : Rule P A) → applies x ≡ false → AllPass rs → (i : ℕ) → applies (getD rs i x) ≡ false
-  pass-at [] x h p i = h
-  pass-at (rule n w b a ∷ rs) x h p zero = p .0
-  pass-at (rule n w b a ∷ rs) x h p (suc i) = pass-at rs x h (p .1) i
+  -- of lists joined none applies where none does of either
+  pub pass-both : (rs ss : List (Rule P A)) → AllPass (rs ++ ss) → AllPass rs × AllPass ss
+  pass-both [] ss p = (tt, p)
+  pass-both (rule n w b a ∷ rs) ss p = let q = pass-both rs ss (p .1) in ((p .0, q .0), q .1)
 
 -- stop makes a decision of a rule that applies
 module _ {P A D : Type 0} (stop : ℕ → P → A → D) where
