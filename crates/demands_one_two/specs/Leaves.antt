@@ -26,25 +26,25 @@ abbrev pub resultIn : ℕ → Span → List ℕ → Result
 resultIn kind x bytes = record { kind = kind; drive = x .drive; block = x .block .0; len = x .count; bytes = bytes }
 
 -- its bytes and then its record are a result that comes
-pub stored-result : (s : List ℕ) (g : Geometry) (i kind : ℕ) (x : Span) (bytes : List ℕ) → emptySlot s g ≡ At i
-    → stored s (slotStores s g i kind x bytes) ≡ withResult s g (resultIn kind x bytes)
-stored-result s g i kind x bytes e =
-    retained-at s g kind (x .drive) (x .block .0) (x .count) bytes i (slotAt g i) (usedCount s g + 1) _ _ e refl refl refl refl
+pub stored-result : (m : List ℕ) (g : Geometry) (i kind : ℕ) (x : Span) (bytes : List ℕ) → emptySlot m g ≡ At i
+    → stored m (slotStores m g i kind x bytes) ≡ withResult m g (resultIn kind x bytes)
+stored-result m g i kind x bytes e =
+    retained-at m g kind (x .drive) (x .block .0) (x .count) bytes i (slotAt g i) (usedCount m g + 1) _ _ e refl refl refl refl
 
 -- the data first, on the media, and then the result: the slots do not see the data
-written-result : (s : List ℕ) (g : Geometry) (i kind at : ℕ) (x : Span) (ys bytes : List ℕ) → Placed g → g .media ≤ at → emptySlot s g ≡ At i
-    → stored (put s at ys) (slotStores s g i kind x bytes) ≡ withResult (put s at ys) g (resultIn kind x bytes)
-written-result s g i kind at x ys bytes p h e =
-    let w = put s at ys in
-    let k : slotBytes w g ≡ slotBytes s g = put-outside s g at ys p (inr h) in
-    retained-at w g kind (x .drive) (x .block .0) (x .count) bytes i (slotAt g i) (usedCount s g + 1) _ _
-    (media-empty s g at ys p h ∙ e) refl (ap (λ (n : ℕ). n + 1) (sym (kept-count s w g p k))) refl refl
+written-result : (m : List ℕ) (g : Geometry) (i kind at : ℕ) (x : Span) (ys bytes : List ℕ) → Placed g → g .media ≤ at → emptySlot m g ≡ At i
+    → stored (put m at ys) (slotStores m g i kind x bytes) ≡ withResult (put m at ys) g (resultIn kind x bytes)
+written-result m g i kind at x ys bytes p h e =
+    let w = put m at ys in
+    let k : slotBytes w g ≡ slotBytes m g = put-outside m g at ys p (inr h) in
+    retained-at w g kind (x .drive) (x .block .0) (x .count) bytes i (slotAt g i) (usedCount m g + 1) _ _
+    (media-empty m g at ys p h ∙ e) refl (ap (λ (n : ℕ). n + 1) (sym (kept-count m w g p k))) refl refl
 
 -- so XDWRITE's result comes after its data, if that is written
-pub retain-leaves : (s : List ℕ) (g : Geometry) (sent : List ℕ) (x : Span) (i mirror ndisc : ℕ) → Placed g → emptySlot s g ≡ At i
-    → leaves s g sent (Retain x i mirror ndisc)
-    ≡ withResult (put s (spanAt g x) (cond (eqb ndisc 0) sent [])) g (resultIn 1 x (resultOf s g x mirror sent))
-retain-leaves s g sent x i mirror ndisc p e =
-    let res = resultOf s g x mirror sent in
-    stored-data s g x ndisc sent (slotStores s g i 1 x res)
-    ∙ written-result s g i 1 (spanAt g x) x (cond (eqb ndisc 0) sent []) res p (span-after-media g x) e
+pub retain-leaves : (m : List ℕ) (g : Geometry) (s : List ℕ) (x : Span) (i mirror ndisc : ℕ) → Placed g → emptySlot m g ≡ At i
+    → leaves m g s (Retain x i mirror ndisc)
+    ≡ withResult (put m (spanAt g x) (cond (eqb ndisc 0) s [])) g (resultIn 1 x (resultOf m g x mirror s))
+retain-leaves m g s x i mirror ndisc p e =
+    let res = resultOf m g x mirror s in
+    stored-data m g x ndisc s (slotStores m g i 1 x res)
+    ∙ written-result m g i 1 (spanAt g x) x (cond (eqb ndisc 0) s []) res p (span-after-media g x) e

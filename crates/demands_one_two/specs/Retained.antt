@@ -31,59 +31,59 @@ use Rattle.demands_one_two.specs.Valid.{retained-sound, regenerated-soun
 
 -- the results after an act
 abbrev pub afterwards : List ℕ → Geometry → List ℕ → Act → List Result
-afterwards s g sent (Read x) = results s g
-afterwards s g sent (Write x) = results s g
-afterwards s g sent (XpWrite x) = results s g
-afterwards s g sent (XdRead x i) = sansFirst (answers (x .drive) (x .block .0)) (results s g)
-afterwards s g sent (Couple x y mirror) = results s g
-afterwards s g sent (Retain x i mirror ndisc) = resultIn 1 x (resultOf s g x mirror sent) ∷ results s g
-afterwards s g sent (Rebuild x n int) = results s g
-afterwards s g sent (Regenerate x n int i) = resultIn 2 x (blocksOf s g x ⊻ gathered s g sent (x .count) n int) ∷ results s g
-afterwards s g sent (XdWriteRead x disable) = results s g
+afterwards m g s (Read x) = results m g
+afterwards m g s (Write x) = results m g
+afterwards m g s (XpWrite x) = results m g
+afterwards m g s (XdRead x i) = sansFirst (answers (x .drive) (x .block .0)) (results m g)
+afterwards m g s (Couple x y mirror) = results m g
+afterwards m g s (Retain x i mirror ndisc) = resultIn 1 x (resultOf m g x mirror s) ∷ results m g
+afterwards m g s (Rebuild x n int) = results m g
+afterwards m g s (Regenerate x n int i) = resultIn 2 x (blocksOf m g x ⊻ gathered m g s (x .count) n int) ∷ results m g
+afterwards m g s (XdWriteRead x disable) = results m g
 
-module _ (s : List ℕ) (g : Geometry) (h : Shelf s g) (sent : List ℕ) where
+module _ (m : List ℕ) (g : Geometry) (h : Shelf m g) (s : List ℕ) where
   -- blocks written leave them
-  pub written-results : (at : ℕ) (ys : List ℕ) → g .media ≤ at → results (put s at ys) g ≡ results s g
+  pub written-results : (at : ℕ) (ys : List ℕ) → g .media ≤ at → results (put m at ys) g ≡ results m g
   written-results at ys l =
-      let p = shelf-frame s g h .placed in
-      kept-results s (put s at ys) g p (put-outside s g at ys p (inr l)) (h .slots-ok)
+      let p = shelf-frame m g h .placed in
+      kept-results m (put m at ys) g p (put-outside m g at ys p (inr l)) (h .slots-ok)
 
-  retain-after : (room : ℕ) (x : Span) (i mirror ndisc : ℕ) → Allowed s g sent room (Retain x i mirror ndisc)
-      → results (leaves s g sent (Retain x i mirror ndisc)) g ≡ afterwards s g sent (Retain x i mirror ndisc)
-  retain-after room x i mirror ndisc (b, e, m, v) =
-      let p = shelf-frame s g h .placed in
-      let ys = cond (eqb ndisc 0) sent [] in
+  retain-after : (room : ℕ) (x : Span) (i mirror ndisc : ℕ) → Allowed m g s room (Retain x i mirror ndisc)
+      → results (leaves m g s (Retain x i mirror ndisc)) g ≡ afterwards m g s (Retain x i mirror ndisc)
+  retain-after room x i mirror ndisc (b, e, most, v) =
+      let p = shelf-frame m g h .placed in
+      let ys = cond (eqb ndisc 0) s [] in
       let media = span-after-media g x in
-      let w = put s (spanAt g x) ys in
-      let hw = shelf-written s g h (spanAt g x) ys media in
-      let z = resultIn 1 x (resultOf s g x mirror sent) in
-      ap (λ (t : List ℕ). results t g) (retain-leaves s g sent x i mirror ndisc p (v .takes))
-      ∙ retain-results w g (shelf-frame w g hw) (hw .slots-ok) i (media-empty s g (spanAt g x) ys p media ∙ v .takes) z (retained-sound s g h sent x mirror b e m)
+      let w = put m (spanAt g x) ys in
+      let hw = shelf-written m g h (spanAt g x) ys media in
+      let z = resultIn 1 x (resultOf m g x mirror s) in
+      ap (λ (t : List ℕ). results t g) (retain-leaves m g s x i mirror ndisc p (v .takes))
+      ∙ retain-results w g (shelf-frame w g hw) (hw .slots-ok) i (media-empty m g (spanAt g x) ys p media ∙ v .takes) z (retained-sound m g h s x mirror b e most)
       ∙ ap (λ (l : List Result). z ∷ l) (written-results (spanAt g x) ys media)
 
-  pub results-after : (room : ℕ) (act : Act) → Allowed s g sent room act → results (leaves s g sent act) g ≡ afterwards s g sent act
+  pub results-after : (room : ℕ) (act : Act) → Allowed m g s room act → results (leaves m g s act) g ≡ afterwards m g s act
   results-after room (Read x) a = refl
-  results-after room (Write x) a = written-results (spanAt g x) sent (span-after-media g x)
-  results-after room (XpWrite x) a = written-results (spanAt g x) (blocksOf s g x ⊻ sent) (span-after-media g x)
-  results-after room (XdRead x i) a = newest-goes s g (h .slots-ok) (x .drive) (x .block .0) (shelf-frame s g h) i (a .0 .answers)
+  results-after room (Write x) a = written-results (spanAt g x) s (span-after-media g x)
+  results-after room (XpWrite x) a = written-results (spanAt g x) (blocksOf m g x ⊻ s) (span-after-media g x)
+  results-after room (XdRead x i) a = newest-goes m g (h .slots-ok) (x .drive) (x .block .0) (shelf-frame m g h) i (a .0 .answers)
   results-after room (Couple x y mirror) a =
-      let p = shelf-frame s g h .placed in
-      let w = put s (spanAt g x) sent in
-      let hw = shelf-written s g h (spanAt g x) sent (span-after-media g x) in
-      kept-results w _ g p (put-outside w g (spanAt g y) _ p (inr (span-after-media g y))) (hw .slots-ok) ∙ written-results (spanAt g x) sent (span-after-media g x)
+      let p = shelf-frame m g h .placed in
+      let w = put m (spanAt g x) s in
+      let hw = shelf-written m g h (spanAt g x) s (span-after-media g x) in
+      kept-results w _ g p (put-outside w g (spanAt g y) _ p (inr (span-after-media g y))) (hw .slots-ok) ∙ written-results (spanAt g x) s (span-after-media g x)
   results-after room (Retain x i mirror ndisc) a = retain-after room x i mirror ndisc a
-  results-after room (Rebuild x n int) a = written-results (spanAt g x) (gathered s g sent (x .count) n int) (span-after-media g x)
+  results-after room (Rebuild x n int) a = written-results (spanAt g x) (gathered m g s (x .count) n int) (span-after-media g x)
   results-after room (Regenerate x n int i) a =
-      let bytes = blocksOf s g x ⊻ gathered s g sent (x .count) n int in
-      ap (λ (t : List ℕ). results t g) (stored-result s g i 2 x bytes (a .3 .takes))
-      ∙ retain-results s g (shelf-frame s g h) (h .slots-ok) i (a .3 .takes) (resultIn 2 x bytes)
-      (regenerated-sound s g h sent x n int (a .0) (a .1) (a .2))
+      let bytes = blocksOf m g x ⊻ gathered m g s (x .count) n int in
+      ap (λ (t : List ℕ). results t g) (stored-result m g i 2 x bytes (a .3 .takes))
+      ∙ retain-results m g (shelf-frame m g h) (h .slots-ok) i (a .3 .takes) (resultIn 2 x bytes)
+      (regenerated-sound m g h s x n int (a .0) (a .1) (a .2))
   results-after room (XdWriteRead x disable) a =
-      ap (λ (t : List ℕ). results t g) (stored-alone s g x disable sent) ∙ written-results (spanAt g x) (cond (eqb disable 0) sent []) (span-after-media g x)
+      ap (λ (t : List ℕ). results t g) (stored-alone m g x disable s) ∙ written-results (spanAt g x) (cond (eqb disable 0) s []) (span-after-media g x)
 
   -- XDREAD hands out the newest result at its drive and block, whole
-  pub newest-handed : (room : ℕ) (x : Span) (i : ℕ) → Allowed s g sent room (XdRead x i)
-      → (firstOf (answers (x .drive) (x .block .0)) (results s g) ≡ some (resultAt s g i)) × (hands s g sent (XdRead x i) ≡ resultAt s g i .bytes)
+  pub newest-handed : (room : ℕ) (x : Span) (i : ℕ) → Allowed m g s room (XdRead x i)
+      → (firstOf (answers (x .drive) (x .block .0)) (results m g) ≡ some (resultAt m g i)) × (hands m g s (XdRead x i) ≡ resultAt m g i .bytes)
   unfolding resultAt
   newest-handed room x i a =
-      (newest-result s g (h .slots-ok) (x .drive) (x .block .0) i (a .0 .answers), ap (λ (k : ℕ). part s (dataAt g i) (k * g .l)) (sym (a .0 .same-len)))
+      (newest-result m g (h .slots-ok) (x .drive) (x .block .0) i (a .0 .answers), ap (λ (k : ℕ). part m (dataAt g i) (k * g .l)) (sym (a .0 .same-len)))

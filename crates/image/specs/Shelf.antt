@@ -15,42 +15,42 @@ use Rattle.slots.specs.Slots.{slotsOk}
 use Rattle.image.specs.Valid.{validImage}
 
 -- s is a valid image with geometry g
-pub record Shelf (s : List ℕ) (g : Geometry) : Type 0 where
-  pub header : geometryOf s ≡ g
-  pub framed-ok : framedOk s ≡ true
-  pub table-ok : tableOk s g ≡ true
-  pub slots-ok : slotsOk s g ≡ true
+pub record Shelf (m : List ℕ) (g : Geometry) : Type 0 where
+  pub header : geometryOf m ≡ g
+  pub framed-ok : framedOk m ≡ true
+  pub table-ok : tableOk m g ≡ true
+  pub slots-ok : slotsOk m g ≡ true
 
-pub shelf : (s : List ℕ) → validImage s ≡ true → Shelf s (geometryOf s)
+pub shelf : (m : List ℕ) → validImage m ≡ true → Shelf m (geometryOf m)
 unfolding validImage
-shelf s e = record { header = refl; framed-ok = holds _ 0 e; table-ok = holds _ 1 e; slots-ok = holds _ 2 e }
+shelf m e = record { header = refl; framed-ok = holds _ 0 e; table-ok = holds _ 1 e; slots-ok = holds _ 2 e }
 
-pub shelf-valid : (s : List ℕ) (g : Geometry) → Shelf s g → validImage s ≡ true
+pub shelf-valid : (m : List ℕ) (g : Geometry) → Shelf m g → validImage m ≡ true
 unfolding validImage
-shelf-valid s g h =
+shelf-valid m g h =
     every-of _ (
       h .framed-ok,
-      (ap (tableOk s) (h .header) ∙ h .table-ok, (ap (slotsOk s) (h .header) ∙ h .slots-ok, tt)),
+      (ap (tableOk m) (h .header) ∙ h .table-ok, (ap (slotsOk m) (h .header) ∙ h .slots-ok, tt)),
     )
 
-pub shelf-frame : (s : List ℕ) (g : Geometry) → Shelf s g → Framed s g
-shelf-frame s g h = subst (Framed s) (h .header) (framed s (h .framed-ok))
+pub shelf-frame : (m : List ℕ) (g : Geometry) → Shelf m g → Framed m g
+shelf-frame m g h = subst (Framed m) (h .header) (framed m (h .framed-ok))
 
 -- a change from the slots on that leaves the slots right
-pub shelf-kept : (s t : List ℕ) (g : Geometry) → Shelf s g → length t ≡ length s → SameFront t s g → slotsOk t g ≡ true → Shelf t g
-shelf-kept s t g h n e ok =
-    let p = shelf-frame s g h .placed in
-    let q : geometryOf t ≡ geometryOf s = geometry-same t s g p e in
+pub shelf-kept : (m t : List ℕ) (g : Geometry) → Shelf m g → length t ≡ length m → SameFront t m g → slotsOk t g ≡ true → Shelf t g
+shelf-kept m t g h n e ok =
+    let p = shelf-frame m g h .placed in
+    let q : geometryOf t ≡ geometryOf m = geometry-same t m g p e in
     record {
       header = q ∙ h .header;
-      framed-ok = framed-alike t s n q ∙ h .framed-ok;
-      table-ok = table-same t s g p e ∙ h .table-ok;
+      framed-ok = framed-alike t m n q ∙ h .framed-ok;
+      table-ok = table-same t m g p e ∙ h .table-ok;
       slots-ok = ok;
     }
 
 -- as the code reads the header of a valid image
-pub valid-long : (s : List ℕ) → validImage s ≡ true → 32 ≤ length s
-valid-long s e = framed-long s (shelf s e .framed-ok)
+pub valid-long : (m : List ℕ) → validImage m ≡ true → 32 ≤ length m
+valid-long m e = framed-long m (shelf m e .framed-ok)
 
-pub valid-framed : (s : List ℕ) (g : Geometry) → validImage s ≡ true → g ≡ geometryOf s → Framed s g
-valid-framed s g e h = subst (Framed s) (sym h) (shelf-frame s (geometryOf s) (shelf s e))
+pub valid-framed : (m : List ℕ) (g : Geometry) → validImage m ≡ true → g ≡ geometryOf m → Framed m g
+valid-framed m g e h = subst (Framed m) (sym h) (shelf-frame m (geometryOf m) (shelf m e))

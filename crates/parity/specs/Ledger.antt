@@ -78,33 +78,33 @@ waitsOn drive e = every (isUnread (e .fate) ∷ eqb (e .result .drive) drive ∷
 
 -- read, owed, and just these bytes at these blocks
 abbrev pub carriable : Span → List ℕ → Line → Bool
-carriable x sent e =
+carriable x s e =
     every
     (e .owes
     ∷ isRead (e .fate)
     ∷ eqb (e .result .block) (x .block .0)
     ∷ eqb (e .result .len) (x .count)
-    ∷ sameList (e .result .bytes) sent
+    ∷ sameList (e .result .bytes) s
     ∷ [])
 
 -- what an act changes: "a medium-changing XDWRITE" has NDisc 0, or DISABLE WRITE 0; of lines that are alike XPWRITE carries one, no matter
 -- which. A1: "a 53h that writes opens a result and reads it in one step"
 abbrev pub noted : List ℕ → Geometry → List ℕ → Act → List Line → List Line
-noted m g sent (ToRead x) es = es
-noted m g sent (Write x) es = es
-noted m g sent (XpWrite x) es = onFirst (carriable x sent) (become Carried) es
-noted m g sent (XdRead x i) es = onFirst (waits (x .drive) (x .block .0)) (become Read) es
-noted m g sent (Couple x y mirror) es = es
-noted m g sent (Retain x i mirror ndisc) es = line (resultIn 1 x (resultOf m g x mirror sent)) (eqb ndisc 0) Unread ∷ es
-noted m g sent (Rebuild x n int) es = es
-noted m g sent (Regenerate x n int i) es = line (resultIn 2 x (blocksOf m g x ⊻ gathered m g sent (x .count) n int)) false Unread ∷ es
+noted m g s (ToRead x) es = es
+noted m g s (Write x) es = es
+noted m g s (XpWrite x) es = onFirst (carriable x s) (become Carried) es
+noted m g s (XdRead x i) es = onFirst (waits (x .drive) (x .block .0)) (become Read) es
+noted m g s (Couple x y mirror) es = es
+noted m g s (Retain x i mirror ndisc) es = line (resultIn 1 x (resultOf m g x mirror s)) (eqb ndisc 0) Unread ∷ es
+noted m g s (Rebuild x n int) es = es
+noted m g s (Regenerate x n int i) es = line (resultIn 2 x (blocksOf m g x ⊻ gathered m g s (x .count) n int)) false Unread ∷ es
 -- the bytes that it hands to the room
-noted m g sent (XdWriteRead x disable) es = line (resultIn 1 x (sent ⊻ blocksOf m g x)) (eqb disable 0) Read ∷ es
+noted m g s (XdWriteRead x disable) es = line (resultIn 1 x (s ⊻ blocksOf m g x)) (eqb disable 0) Read ∷ es
 
 -- a command that is not carried out leaves the ledger
 abbrev pub notedBy : Decision → List ℕ → List ℕ → List Line → List Line
-notedBy (Stop n w x) m sent es = es
-notedBy (Go act x) m sent es = noted m (geometryOf m) sent act es
+notedBy (Stop n w x) m s es = es
+notedBy (Go act x) m s es = noted m (geometryOf m) s act es
 
 abbrev pub notedCall : Call → List ℕ → List Line → List Line
 notedCall (command a c s r) m es = notedBy (decided m a c s r) m s es
@@ -114,33 +114,33 @@ notedCall (marking a state) m es = es
 -- ---- what a run may hold
 
 -- a line of the ledger is the data sent, at its own blocks: left by a medium-changing XDWRITE or XDWRITEREAD, read, and not yet carried
-pub record Carries (es : List Line) (x : Span) (sent : List ℕ) : Type 0 where
+pub record Carries (es : List Line) (x : Span) (s : List ℕ) : Type 0 where
   pub one : Line
   pub listed : List·Memᴰ one es
   pub owed : one .owes ≡ true
   pub read : one .fate ≡ Read
   pub same-block : one .result .block ≡ x .block .0
   pub same-len : one .result .len ≡ x .count
-  pub same-bytes : one .result .bytes ≡ sent
+  pub same-bytes : one .result .bytes ≡ s
 
 -- "no plain write, mirror write or REBUILD, let coupled writes name equal block numbers, and let each accepted XPWRITE carry, once, a
 -- result left by a medium-changing XDWRITE and read by XDREAD, at its own blocks"; A1: "In demand 3 a 53h that writes opens a result and
 -- reads it in one step." Nothing is asked of it: it has no Mirror
 abbrev pub FairAct : List Line → List ℕ → Act → Type 0
-FairAct es sent (ToRead x) = Unit {0}
-FairAct es sent (Write x) = ⊥
-FairAct es sent (XpWrite x) = Carries es x sent
-FairAct es sent (XdRead x i) = Unit {0}
-FairAct es sent (Couple x y mirror) = (mirror ≡ 0) × (x .block .0 ≡ y .block .0)
-FairAct es sent (Retain x i mirror ndisc) = ndisc ≡ 0 → mirror ≡ 0
-FairAct es sent (Rebuild x n int) = ⊥
-FairAct es sent (Regenerate x n int i) = Unit {0}
-FairAct es sent (XdWriteRead x disable) = Unit {0}
+FairAct es s (ToRead x) = Unit {0}
+FairAct es s (Write x) = ⊥
+FairAct es s (XpWrite x) = Carries es x s
+FairAct es s (XdRead x i) = Unit {0}
+FairAct es s (Couple x y mirror) = (mirror ≡ 0) × (x .block .0 ≡ y .block .0)
+FairAct es s (Retain x i mirror ndisc) = ndisc ≡ 0 → mirror ≡ 0
+FairAct es s (Rebuild x n int) = ⊥
+FairAct es s (Regenerate x n int i) = Unit {0}
+FairAct es s (XdWriteRead x disable) = Unit {0}
 
 -- asked only of a command that is carried out
 abbrev pub FairBy : Decision → List Line → List ℕ → Type 0
-FairBy (Stop n w x) es sent = Unit {0}
-FairBy (Go act x) es sent = FairAct es sent act
+FairBy (Stop n w x) es s = Unit {0}
+FairBy (Go act x) es s = FairAct es s act
 
 abbrev pub FairCall : Call → List ℕ → List Line → Type 0
 FairCall (command a c s r) m es = FairBy (decided m a c s r) es s

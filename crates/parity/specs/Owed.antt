@@ -107,22 +107,22 @@ module _ (g : Geometry) (r : ℕ) where
 
 -- ---- a line carried
 
-module _ (x : Span) (sent : List ℕ) (es : List Line) where
-  carries-passes : (c : Carries es x sent) → carriable x sent (c .one) ≡ true
+module _ (x : Span) (s : List ℕ) (es : List Line) where
+  carries-passes : (c : Carries es x s) → carriable x s (c .one) ≡ true
   carries-passes c =
       every-of _ (
         c .owed,
         (
           ap isRead (c .read),
-          (eq-eqb _ _ (c .same-block), (eq-eqb _ _ (c .same-len), (ap (λ (ys : List ℕ). sameList ys sent) (c .same-bytes) ∙ same-self sent, tt))),
+          (eq-eqb _ _ (c .same-block), (eq-eqb _ _ (c .same-len), (ap (λ (ys : List ℕ). sameList ys s) (c .same-bytes) ∙ same-self s, tt))),
         ),
       )
 
   -- where no line passes, there is nothing to carry
-  pub carries-none : EachIs (λ (e : Line). carriable x sent e ≡ false) es → Carries es x sent → ⊥
+  pub carries-none : EachIs (λ (e : Line). carriable x s e ≡ false) es → Carries es x s → ⊥
   carries-none h c = true≢false (sym (carries-passes c) ∙ each-mem _ es h (c .one) (c .listed))
 
-module _ (g : Geometry) (r : ℕ) (x : Span) (sent : List ℕ) where
+module _ (g : Geometry) (r : ℕ) (x : Span) (s : List ℕ) where
   read-is : (f : Fate) → isRead f ≡ true → isCarried f ≡ false
   read-is Unread t = absurd (true≢false (sym t))
   read-is Read t = refl
@@ -130,7 +130,7 @@ module _ (g : Geometry) (r : ℕ) (x : Span) (sent : List ℕ) where
   read-is Carried t = absurd (true≢false (sym t))
 
   -- it was owed, with the data sent
-  was-owed : (e : Line) → carriable x sent e ≡ true → owedBy g r e ≡ share g (x .block .0) sent r
+  was-owed : (e : Line) → carriable x s e ≡ true → owedBy g r e ≡ share g (x .block .0) s r
   was-owed e t =
       ap₂ (λ (b c : Bool). cond (b && not c) (inRow g r e) []) (holds _ 0 t) (read-is (e .fate) (holds _ 1 t))
       ∙ ap₂ (λ (b : ℕ) (ys : List ℕ). share g b ys r) (eqb-true _ _ (holds _ 2 t)) (same-list _ _ (holds _ 4 t))
@@ -139,17 +139,17 @@ module _ (g : Geometry) (r : ℕ) (x : Span) (sent : List ℕ) where
   now-paid : (e : Line) → isOwed (become Carried e) ≡ false
   now-paid e = and-false (e .owes)
 
-  paid : (one : Line) → carriable x sent one ≡ true → (es : List Line) → List·Memᴰ one es
-      → share g (x .block .0) sent r ⊻ owed g r (onFirst (carriable x sent) (become Carried) es) ≡ owed g r es
+  paid : (one : Line) → carriable x s one ≡ true → (es : List Line) → List·Memᴰ one es
+      → share g (x .block .0) s r ⊻ owed g r (onFirst (carriable x s) (become Carried) es) ≡ owed g r es
   paid one h [] m = absurd (List·Memᴰ·not-nil m)
   paid one h (e ∷ es) m =
-      let δ = share g (x .block .0) sent r in
-      let rest = onFirst (carriable x sent) (become Carried) es in
+      let δ = share g (x .block .0) s r in
+      let rest = onFirst (carriable x s) (become Carried) es in
       ⊎-elim
-      (λ (t : carriable x sent e ≡ true).
+      (λ (t : carriable x s e ≡ true).
       rw t (ap (_⊻_ δ) (owed-miss g r (become Carried e) es (now-paid e)) ∙ sym (owed-cons g r e es ∙ ap (λ (o : List ℕ). o ⊻ owed g r es) (was-owed e t))))
-      (λ (t : carriable x sent e ≡ false).
-      let in-rest = ⊎-elim (λ (q : one ≡ e). absurd (true≢false (sym h ∙ ap (carriable x sent) q ∙ t))) (λ k. k) (List·Memᴰ·cases-cons m) in
+      (λ (t : carriable x s e ≡ false).
+      let in-rest = ⊎-elim (λ (q : one ≡ e). absurd (true≢false (sym h ∙ ap (carriable x s) q ∙ t))) (λ k. k) (List·Memᴰ·cases-cons m) in
       rw t
       (ap (_⊻_ δ) (owed-cons g r e rest)
       ∙ sym (xor-regroups δ (owedBy g r e) (owed g r rest))
@@ -157,8 +157,8 @@ module _ (g : Geometry) (r : ℕ) (x : Span) (sent : List ℕ) where
       ∙ xor-regroups (owedBy g r e) δ (owed g r rest)
       ∙ ap (_⊻_ (owedBy g r e)) (paid one h es in-rest)
       ∙ sym (owed-cons g r e es)))
-      (either (carriable x sent e))
+      (either (carriable x s e))
 
-  pub owed-carried : (es : List Line) → Carries es x sent
-      → share g (x .block .0) sent r ⊻ owed g r (onFirst (carriable x sent) (become Carried) es) ≡ owed g r es
-  owed-carried es c = paid (c .one) (carries-passes x sent es c) es (c .listed)
+  pub owed-carried : (es : List Line) → Carries es x s
+      → share g (x .block .0) s r ⊻ owed g r (onFirst (carriable x s) (become Carried) es) ≡ owed g r es
+  owed-carried es c = paid (c .one) (carries-passes x s es c) es (c .listed)

@@ -60,7 +60,7 @@ module _ (g : Geometry) (f : ℕ → Slot) (h : Right g f) (p : ℕ → Bool) wh
       (λ t. let q : x ≡ i = Option·some-injective x i (sym (first-hit p x (agesTo g f n) t) ∙ e) in
       keep-miss (λ j. not (eqb j i)) x (agesTo g f n) (ap not (eq-eqb x i q))
       ∙ keep-all (λ j. not (eqb j i)) (agesTo g f n)
-      (λ j m. let a = aged-in g f h n j (omega arith) m in ap not (ne-eqb j i (λ k. omega (arith, w .2, ap (λ (y : ℕ). f y .rank) (k ∙ sym q)))))
+      (λ j here. let a = aged-in g f h n j (omega arith) here in ap not (ne-eqb j i (λ k. omega (arith, w .2, ap (λ (y : ℕ). f y .rank) (k ∙ sym q)))))
       ∙ sym (sans-hit p x (agesTo g f n) t))
       (λ t. let d : firstOf p (agesTo g f n) ≡ some i = sym (first-miss p x (agesTo g f n) t) ∙ e in
       keep-hit (λ j. not (eqb j i)) x (agesTo g f n)
@@ -78,56 +78,56 @@ foundOf none = Nothing
 
 -- slot i is wanted
 abbrev pub wantedAt : List ℕ → Geometry → ℕ → ℕ → ℕ → Bool
-wantedAt s g drive block i = wanted drive block (slotOf s g i)
+wantedAt m g drive block i = wanted drive block (slotOf m g i)
 
 -- a result on a drive with a block number
 abbrev pub answers : ℕ → ℕ → Result → Bool
 answers drive block r = every (eqb (r .drive) drive ∷ eqb (r .block) block ∷ [])
 
-module _ (s : List ℕ) (g : Geometry) (ok : slotsOk s g ≡ true) (drive block : ℕ) where
-  first-newest : (i : ℕ) → newestOf s g drive block ≡ At i → firstOf (wantedAt s g drive block) (byAge s g) ≡ some i
+module _ (m : List ℕ) (g : Geometry) (ok : slotsOk m g ≡ true) (drive block : ℕ) where
+  first-newest : (i : ℕ) → newestOf m g drive block ≡ At i → firstOf (wantedAt m g drive block) (byAge m g) ≡ some i
   first-newest i e =
-      let w = newest-at s g drive block i e in
-      let u : isUsed (slotOf s g i) ≡ true = holds _ 0 (w .asked) in
-      let v = newest-used s g drive block ok i w in
-      first-aged g (slotOf s g) (right s g ok) (wantedAt s g drive block) i (w .inside) u (w .asked) (w .most) (usedIn g (slotOf s g))
+      let w = newest-at m g drive block i e in
+      let u : isUsed (slotOf m g i) ≡ true = holds _ 0 (w .asked) in
+      let v = newest-used m g drive block ok i w in
+      first-aged g (slotOf m g) (right m g ok) (wantedAt m g drive block) i (w .inside) u (w .asked) (w .most) (usedIn g (slotOf m g))
       (v .rank-high) (omega arith)
 
-  first-nothing : newestOf s g drive block ≡ Nothing → firstOf (wantedAt s g drive block) (byAge s g) ≡ none
+  first-nothing : newestOf m g drive block ≡ Nothing → firstOf (wantedAt m g drive block) (byAge m g) ≡ none
   first-nothing e =
-      first-none (wantedAt s g drive block) (byAge s g)
-      (λ i m. newest-nothing s g drive block ok e i (ages-in g (slotOf s g) (right s g ok) i m .0))
+      first-none (wantedAt m g drive block) (byAge m g)
+      (λ i here. newest-nothing m g drive block ok e i (ages-in g (slotOf m g) (right m g ok) i here .0))
 
-  pub newest-first : newestOf s g drive block ≡ foundOf (firstOf (wantedAt s g drive block) (byAge s g))
-  newest-first = by (newestOf s g drive block) refl
+  pub newest-first : newestOf m g drive block ≡ foundOf (firstOf (wantedAt m g drive block) (byAge m g))
+  newest-first = by (newestOf m g drive block) refl
     where
-      by : (o : Found) → newestOf s g drive block ≡ o → o ≡ foundOf (firstOf (wantedAt s g drive block) (byAge s g))
+      by : (o : Found) → newestOf m g drive block ≡ o → o ≡ foundOf (firstOf (wantedAt m g drive block) (byAge m g))
       by (At i) e = ap foundOf (sym (first-newest i e))
       by Nothing e = ap foundOf (sym (first-nothing e))
 
   -- a used slot is wanted where its result answers
-  answers-is : (i : ℕ) → List·Memᴰ i (byAge s g) → answers drive block (resultAt s g i) ≡ wanted drive block (slotOf s g i)
+  answers-is : (i : ℕ) → List·Memᴰ i (byAge m g) → answers drive block (resultAt m g i) ≡ wanted drive block (slotOf m g i)
   unfolding resultAt every
-  answers-is i m = rw (ages-in g (slotOf s g) (right s g ok) i m .1)
+  answers-is i here = rw (ages-in g (slotOf m g) (right m g ok) i here .1)
 
-  first-result : firstOf (answers drive block) (results s g) ≡ Option·map (resultAt s g) (firstOf (wantedAt s g drive block) (byAge s g))
+  first-result : firstOf (answers drive block) (results m g) ≡ Option·map (resultAt m g) (firstOf (wantedAt m g drive block) (byAge m g))
   unfolding results
-  first-result = first-map (resultAt s g) (answers drive block) (wantedAt s g drive block) (byAge s g) answers-is
+  first-result = first-map (resultAt m g) (answers drive block) (wantedAt m g drive block) (byAge m g) answers-is
 
   -- what XDREAD hands out is the first of the results that answers
-  pub newest-result : (i : ℕ) → newestOf s g drive block ≡ At i → firstOf (answers drive block) (results s g) ≡ some (resultAt s g i)
-  newest-result i e = first-result ∙ ap (Option·map (resultAt s g)) (first-newest i e)
+  pub newest-result : (i : ℕ) → newestOf m g drive block ≡ At i → firstOf (answers drive block) (results m g) ≡ some (resultAt m g i)
+  newest-result i e = first-result ∙ ap (Option·map (resultAt m g)) (first-newest i e)
 
-  pub newest-missing : newestOf s g drive block ≡ Nothing → firstOf (answers drive block) (results s g) ≡ none
-  newest-missing e = first-result ∙ ap (Option·map (resultAt s g)) (first-nothing e)
+  pub newest-missing : newestOf m g drive block ≡ Nothing → firstOf (answers drive block) (results m g) ≡ none
+  newest-missing e = first-result ∙ ap (Option·map (resultAt m g)) (first-nothing e)
 
   -- and it alone goes
-  pub newest-goes : Framed s g → (i : ℕ) → newestOf s g drive block ≡ At i
-      → results (released s g i) g ≡ sansFirst (answers drive block) (results s g)
+  pub newest-goes : Framed m g → (i : ℕ) → newestOf m g drive block ≡ At i
+      → results (released m g i) g ≡ sansFirst (answers drive block) (results m g)
   unfolding results
   newest-goes f i e =
-      let w = newest-at s g drive block i e in
-      release-results s g f ok i (w .inside) (holds _ 0 (w .asked))
-      ∙ ap (map (resultAt s g))
-      (sans-aged g (slotOf s g) (right s g ok) (wantedAt s g drive block) i (usedIn g (slotOf s g)) (omega arith) (first-newest i e))
-      ∙ sym (sans-map (resultAt s g) (answers drive block) (wantedAt s g drive block) (byAge s g) answers-is)
+      let w = newest-at m g drive block i e in
+      release-results m g f ok i (w .inside) (holds _ 0 (w .asked))
+      ∙ ap (map (resultAt m g))
+      (sans-aged g (slotOf m g) (right m g ok) (wantedAt m g drive block) i (usedIn g (slotOf m g)) (omega arith) (first-newest i e))
+      ∙ sym (sans-map (resultAt m g) (answers drive block) (wantedAt m g drive block) (byAge m g) answers-is)

@@ -34,21 +34,21 @@ slotResult r bytes = record { kind = r .kind; drive = r .drive; block = r .block
 
 -- slot i's: "its bytes fill the front of the slot"
 unfoldable pub resultAt : List ℕ → Geometry → ℕ → Result
-resultAt s g i = slotResult (slotOf s g i) (part s (dataAt g i) (slotOf s g i .len * g .l))
+resultAt m g i = slotResult (slotOf m g i) (part m (dataAt g i) (slotOf m g i .len * g .l))
 
 -- an image's used slots, and their results
 abbrev pub byAge : List ℕ → Geometry → List ℕ
-byAge s g = ages g (slotOf s g)
+byAge m g = ages g (slotOf m g)
 
 unfoldable pub results : List ℕ → Geometry → List Result
-results s g = map (resultAt s g) (byAge s g)
+results m g = map (resultAt m g) (byAge m g)
 
 -- the record of a result at a rank, and an image that retains it
 abbrev pub recordAt : ℕ → Result → Slot
 recordAt rank r = entry rank (r .kind) (r .drive) (r .block) (r .len)
 
 abbrev pub withResult : List ℕ → Geometry → Result → List ℕ
-withResult s g r = retained s g (r .kind) (r .drive) (r .block) (r .len) (r .bytes)
+withResult m g r = retained m g (r .kind) (r .drive) (r .block) (r .len) (r .bytes)
 
 -- a result that a slot can hold
 pub record Sound (g : Geometry) (r : Result) : Type 0 where
@@ -61,14 +61,14 @@ pub record Sound (g : Geometry) (r : Result) : Type 0 where
   pub exact : length (r .bytes) ≡ r .len * g .l
 
 -- a slot of another rank with the same data holds the same result
-pub result-same : (s s′ : List ℕ) (g : Geometry) (i m : ℕ) → slotOf s′ g i ≡ ranked m (slotOf s g i)
-    → part s′ (dataAt g i) (slotOf s g i .len * g .l) ≡ part s (dataAt g i) (slotOf s g i .len * g .l) → resultAt s′ g i ≡ resultAt s g i
+pub result-same : (m m′ : List ℕ) (g : Geometry) (i q : ℕ) → slotOf m′ g i ≡ ranked q (slotOf m g i)
+    → part m′ (dataAt g i) (slotOf m g i .len * g .l) ≡ part m (dataAt g i) (slotOf m g i .len * g .l) → resultAt m′ g i ≡ resultAt m g i
 unfolding resultAt
-result-same s s′ g i m e d = ap (λ (t : Slot). slotResult t (part s′ (dataAt g i) (t .len * g .l))) e ∙ ap (slotResult (slotOf s g i)) d
+result-same m m′ g i q e d = ap (λ (t : Slot). slotResult t (part m′ (dataAt g i) (t .len * g .l))) e ∙ ap (slotResult (slotOf m g i)) d
 
 -- what a right image retains is sound
-module _ (s : List ℕ) (g : Geometry) (f : Framed s g) (ok : slotsOk s g ≡ true) where
-  slot-sound : (i : ℕ) → i < g .s → Used g (usedCount s g) (slotOf s g i) → Sound g (resultAt s g i)
+module _ (m : List ℕ) (g : Geometry) (f : Framed m g) (ok : slotsOk m g ≡ true) where
+  slot-sound : (i : ℕ) → i < g .s → Used g (usedCount m g) (slotOf m g i) → Sound g (resultAt m g i)
   unfolding resultAt
   slot-sound i l w =
       record {
@@ -78,13 +78,13 @@ module _ (s : List ℕ) (g : Geometry) (f : Framed s g) (ok : slotsOk s g ≡ tr
         len-low = w .len-low;
         len-high = w .len-high;
         range-in = w .range-in;
-        exact = length-part s (dataAt g i) (slotOf s g i .len * g .l) (data-in s g i (slotOf s g i .len) f l (w .len-high));
+        exact = length-part m (dataAt g i) (slotOf m g i .len * g .l) (data-in m g i (slotOf m g i .len) f l (w .len-high));
       }
 
-  pub results-sound : (r : Result) → List·Memᴰ r (results s g) → Sound g r
+  pub results-sound : (r : Result) → List·Memᴰ r (results m g) → Sound g r
   unfolding results
-  results-sound r m =
-      let w = Memᴰ·of-map (resultAt s g) (byAge s g) m in
-      let h = right s g ok in
-      let b = ages-in g (slotOf s g) h (w .0) (w .1) in
-      rw (← w .2) (slot-sound (w .0) (b .0) (used-at g (slotOf s g) h (w .0) (b .0) (b .1)))
+  results-sound r q =
+      let w = Memᴰ·of-map (resultAt m g) (byAge m g) q in
+      let h = right m g ok in
+      let b = ages-in g (slotOf m g) h (w .0) (w .1) in
+      rw (← w .2) (slot-sound (w .0) (b .0) (used-at g (slotOf m g) h (w .0) (b .0) (b .1)))

@@ -26,33 +26,33 @@ rowLine r sum = field "row " r ++ ascii " sum " ++ hexadecimal sum
 
 -- a row's line, where its sum is not zero
 unfoldable pub lineOf : List ℕ → Geometry → ℕ → List (List ℕ)
-lineOf s g r = cond (isOpen s g r) (rowLine r (rowSum s g r) ∷ []) []
+lineOf m g r = cond (isOpen m g r) (rowLine r (rowSum m g r) ∷ []) []
 
 -- the lines of the rows below n, ascending
 unfoldable pub rowLines : List ℕ → Geometry → ℕ → List (List ℕ)
-rowLines s g zero = []
-rowLines s g (suc n) = rowLines s g n ++ lineOf s g n
+rowLines m g zero = []
+rowLines m g (suc n) = rowLines m g n ++ lineOf m g n
 
 -- how many rows are open
 abbrev pub openRows : List ℕ → Geometry → ℕ
-openRows s g = countBelow (g .b) (isOpen s g)
+openRows m g = countBelow (g .b) (isOpen m g)
 
 -- the lines of a shelf
 unfoldable pub shelfLines : List ℕ → Geometry → List (List ℕ)
-shelfLines s g = headLine g (openRows s g) ∷ rowLines s g (g .b)
+shelfLines m g = headLine g (openRows m g) ∷ rowLines m g (g .b)
 
 -- the whole text, each line ended by a newline: "An invalid image prints `not a shelf`"
 unfoldable pub textOf : List ℕ → List ℕ
-textOf s = written (cond (validImage s) (shelfLines s (geometryOf s)) (ascii "not a shelf" ∷ []))
+textOf m = written (cond (validImage m) (shelfLines m (geometryOf m)) (ascii "not a shelf" ∷ []))
 
 -- what a room lent for the listing holds afterwards, and how many bytes were written: the whole text at its front, or nothing where the
 -- room is too short
 abbrev pub listed : List ℕ → List ℕ → List ℕ
-listed s room = fitted (textOf s) room
+listed m room = fitted (textOf m) room
 
 abbrev pub listedCount : List ℕ → List ℕ → ℕ
-listedCount s room = fittedCount (textOf s) room
+listedCount m room = fittedCount (textOf m) room
 
 -- the program's text for its input: "at most 49,152 bytes", "a longer input `too large`"
 unfoldable pub printedOf : List ℕ → List ℕ
-printedOf s = cond (ltb 49152 (length s)) (written (ascii "too large" ∷ [])) (textOf s)
+printedOf m = cond (ltb 49152 (length m)) (written (ascii "too large" ∷ [])) (textOf m)

@@ -45,44 +45,44 @@ length-others (suc n) d l =
 
 -- ---- the XOR of the others' blocks
 
-module _ (s : List ℕ) (g : Geometry) (r : ℕ) where
+module _ (m : List ℕ) (g : Geometry) (r : ℕ) where
   abbrev all : List ℕ → List ℕ
-  all es = xorAll (map (blockIn s g r) es)
+  all es = xorAll (map (blockIn m g r) es)
 
-  below : (n d : ℕ) → n ≤ d → summedTo s g r n ≡ all (others n d)
+  below : (n d : ℕ) → n ≤ d → summedTo m g r n ≡ all (others n d)
   unfolding summedTo xorAll
   below zero d l = refl
   below (suc n) d l =
       rw (ne-eqb n d (λ q. omega arith))
-      (ap₂ _⊻_ (below n d (omega arith)) (added-block s g r n) ∙ xor-commutes (all (others n d)) (blockIn s g r n))
+      (ap₂ _⊻_ (below n d (omega arith)) (added-block m g r n) ∙ xor-commutes (all (others n d)) (blockIn m g r n))
 
-  above : (n d : ℕ) → d < n → summedTo s g r n ≡ all (others n d) ⊻ blockIn s g r d
+  above : (n d : ℕ) → d < n → summedTo m g r n ≡ all (others n d) ⊻ blockIn m g r d
   unfolding summedTo xorAll
   above zero d l = absurd (not-suc-le-zero l)
   above (suc n) d l =
       ⊎-elim
-      (λ (q : d ≡ n). rw (eq-eqb n d (sym q)) (ap₂ _⊻_ (below n d (omega arith)) (added-block s g r n ∙ ap (blockIn s g r) (sym q))))
+      (λ (q : d ≡ n). rw (eq-eqb n d (sym q)) (ap₂ _⊻_ (below n d (omega arith)) (added-block m g r n ∙ ap (blockIn m g r) (sym q))))
       (λ (h : d < n). rw (ne-eqb n d (λ q. omega arith))
-      (ap₂ _⊻_ (above n d h) (added-block s g r n)
-      ∙ xor-swaps (all (others n d)) (blockIn s g r d) (blockIn s g r n)
-      ∙ ap (λ (o : List ℕ). o ⊻ blockIn s g r d) (xor-commutes (all (others n d)) (blockIn s g r n))))
+      (ap₂ _⊻_ (above n d h) (added-block m g r n)
+      ∙ xor-swaps (all (others n d)) (blockIn m g r d) (blockIn m g r n)
+      ∙ ap (λ (o : List ℕ). o ⊻ blockIn m g r d) (xor-commutes (all (others n d)) (blockIn m g r n))))
       (last-or-below l)
 
-  sum-split : (d : ℕ) → d < g .d → rowSum s g r ≡ replicate (g .l) 0 ⊻ (all (others (g .d) d) ⊻ blockIn s g r d)
+  sum-split : (d : ℕ) → d < g .d → rowSum m g r ≡ replicate (g .l) 0 ⊻ (all (others (g .d) d) ⊻ blockIn m g r d)
   unfolding rowSum
   sum-split d l = ap (_⊻_ (replicate (g .l) 0)) (above (g .d) d l)
 
   -- a zero sum, every other drive once in any order
-  pub left-out : (d : ℕ) (es : List ℕ) → d < g .d → List·Permᴰ es (others (g .d) d) → rowSum s g r ≡ replicate (g .l) 0
-      → length (blockIn s g r d) ≡ g .l → length (all es) ≡ g .l → all es ≡ blockIn s g r d
+  pub left-out : (d : ℕ) (es : List ℕ) → d < g .d → List·Permᴰ es (others (g .d) d) → rowSum m g r ≡ replicate (g .l) 0
+      → length (blockIn m g r d) ≡ g .l → length (all es) ≡ g .l → all es ≡ blockIn m g r d
   left-out d es l p z lb la =
-      let e : all es ≡ all (others (g .d) d) = xorAll-perm (Permᴰ·map (blockIn s g r) p) in
-      let both = all es ⊻ blockIn s g r d in
+      let e : all es ≡ all (others (g .d) d) = xorAll-perm (Permᴰ·map (blockIn m g r) p) in
+      let both = all es ⊻ blockIn m g r d in
       let whole : both ≡ replicate (g .l) 0 =
-      sym (zeros-xor both (g .l) (omega (arith, length-xor (all es) (blockIn s g r d))))
-      ∙ ap (λ (o : List ℕ). replicate (g .l) 0 ⊻ (o ⊻ blockIn s g r d)) e
+      sym (zeros-xor both (g .l) (omega (arith, length-xor (all es) (blockIn m g r d))))
+      ∙ ap (λ (o : List ℕ). replicate (g .l) 0 ⊻ (o ⊻ blockIn m g r d)) e
       ∙ sym (sum-split d l)
       ∙ z in
-      sym (xor-cancels (all es) (blockIn s g r d) (omega arith))
-      ∙ ap (λ (o : List ℕ). o ⊻ blockIn s g r d) whole
-      ∙ zeros-xor (blockIn s g r d) (g .l) (omega arith)
+      sym (xor-cancels (all es) (blockIn m g r d) (omega arith))
+      ∙ ap (λ (o : List ℕ). o ⊻ blockIn m g r d) whole
+      ∙ zeros-xor (blockIn m g r d) (g .l) (omega arith)
