@@ -15,3 +15,4 @@ pub mod Operands
 pub mod Results
 pub mod Example
 pub mod Next
+pub mod Drives

@@ -14,7 +14,7 @@ use Rattle.drives.specs.Front.{SameFront, table-same, geometry-same}
 use Rattle.slots.specs.Slots.{slotsOk}
 use Rattle.image.specs.Valid.{validImage}
 
--- s is a valid image with geometry g
+-- m is a valid image with geometry g
 pub record Shelf (m : List ℕ) (g : Geometry) : Type 0 where
   pub header : geometryOf m ≡ g
   pub framed-ok : framedOk m ≡ true
