@@ -3,7 +3,8 @@
 //!
 //! Nothing here knows an image but by that text, so that a driver writer needs no more.
 
-use shelf_tests::c::shelf_step;
+use second::{Call, Outcome, StepCall};
+use shelf_tests::{through_c, Empty};
 
 const HEADER: &str = include_str!("../../include/shelf.h");
 const GOOD: u32 = 0;
@@ -31,28 +32,18 @@ fn new_shelf(counts: Counts) -> Vec<u8> {
 /// Sends a command for one block of the drive with the address; gives the answer and what
 /// it hands out.
 fn send(image: &mut [u8], code: u8, address: u32, block: u8) -> (u32, Vec<u8>) {
-    let cdb = [code, 0, 0, 0, 0, block, 0, 0, 1, 0];
-    let mut room = [0; 4096];
-    let mut sense = [0; 37];
-    let mut count = 0;
-    // SAFETY: each pointer and length are those of one buffer, and no two share a byte.
-    let answer = unsafe {
-        shelf_step(
-            image.as_mut_ptr(),
-            image.len(),
-            address,
-            cdb.as_ptr(),
-            cdb.len(),
-            std::ptr::null(),
-            0,
-            room.as_mut_ptr(),
-            room.len(),
-            sense.as_mut_ptr(),
-            sense.len(),
-            &mut count,
-        )
+    let call = Call::Step(StepCall {
+        target: address,
+        cdb: vec![code, 0, 0, 0, 0, block, 0, 0, 1, 0],
+        data: vec![],
+        room: vec![0; 4096],
+        sense: vec![0; 37],
+    });
+    let Outcome::Step(outcome) = through_c(image, &call, Empty::Null) else {
+        panic!("a step ends as a step")
     };
-    (answer, room[..count as usize].to_vec())
+    let count = outcome.count.unwrap_or(0) as usize;
+    (outcome.number, outcome.room[..count].to_vec())
 }
 
 /// The answer to a READ of the drive with address 1.

@@ -16,9 +16,9 @@ use Rattle.meaning.specs.Checks.{isUnknown}
 
 -- ---- what is said, with the code that says it: what the CDB has no bytes for is zero, and so is what must be
 
--- "block 2-5, length 7-8"
-abbrev pub tenSaying : ℕ → Op → ℕ → ℕ → ℕ → Command
-tenSaying code o flags block count =
+-- "block 2-5, length 6-7, secondary address 8-10, secondary block 11-14"
+abbrev pub sixteenSaying : ℕ → Op → ℕ → ℕ → ℕ → ℕ → ℕ → Command
+sixteenSaying code o flags block count second spot =
     record {
       code = code;
       op = o;
@@ -28,9 +28,13 @@ tenSaying code o flags block count =
       block = record { 0 = block };
       count = count;
       list = 0;
-      second = record { 0 = 0 };
-      spot = record { 0 = 0 };
+      second = record { 0 = second };
+      spot = record { 0 = spot };
     }
+
+-- "block 2-5, length 7-8"
+abbrev pub tenSaying : ℕ → Op → ℕ → ℕ → ℕ → Command
+tenSaying code o flags block count = sixteenSaying code o flags block count 0 0
 
 -- "length 2-5, list length 7-8"
 abbrev pub listedSaying : ℕ → Op → ℕ → ℕ → ℕ → Command
@@ -46,22 +50,6 @@ listedSaying code o flags count list =
       list = list;
       second = record { 0 = 0 };
       spot = record { 0 = 0 };
-    }
-
--- "block 2-5, length 6-7, secondary address 8-10, secondary block 11-14"
-abbrev pub sixteenSaying : ℕ → Op → ℕ → ℕ → ℕ → ℕ → ℕ → Command
-sixteenSaying code o flags block count second spot =
-    record {
-      code = code;
-      op = o;
-      flags = flags;
-      six = 0;
-      control = 0;
-      block = record { 0 = block };
-      count = count;
-      list = 0;
-      second = record { 0 = second };
-      spot = record { 0 = spot };
     }
 
 -- ---- the CDBs, each with byte 1 given
