@@ -1,7 +1,6 @@
--- What XDWRITE's bytes become, whole and piece by piece.
+-- What XDWRITE's result becomes, whole and piece by piece.
 use Prim.Native.Nat.{ℕ, _+_, _≤_}
-use mathlib.Core.Bool.{cond}
-use mathlib.Core.List.{List, []}
+use mathlib.Core.List.{List}
 use lib.ListN.{length}
 use Rattle.octets.specs.Part.{part, Apart}
 use Rattle.octets.specs.Put.{put}
@@ -10,14 +9,11 @@ use Rattle.act.specs.declared.pass.Pass.{Pass}
 
 -- ---- the whole
 
-abbrev pub dataOf : List ℕ → Pass → List ℕ
-dataOf sent p = cond (p .writes) sent []
-
 abbrev pub laidOf : List ℕ → List ℕ → Pass → List ℕ
 laidOf s sent p = laid (p .adds) (part s (p .to) (length sent)) (mixed (p .mirror) sent (part s (p .from) (length sent)))
 
 unfoldable pub passedOf : List ℕ → List ℕ → Pass → List ℕ
-passedOf s sent p = put (put s (p .from) (dataOf sent p)) (p .to) (laidOf s sent p)
+passedOf s sent p = put s (p .to) (laidOf s sent p)
 
 -- the two ranges lie in the image, and apart
 pub record Passable (s sent : List ℕ) (p : Pass) : Type 0 where
@@ -27,11 +23,8 @@ pub record Passable (s sent : List ℕ) (p : Pass) : Type 0 where
 
 -- ---- the k bytes from o on
 
-abbrev pub dataPiece : List ℕ → Pass → ℕ → ℕ → List ℕ
-dataPiece sent p o k = cond (p .writes) (part sent o k) []
-
 abbrev pub laidPiece : List ℕ → List ℕ → Pass → ℕ → ℕ → List ℕ
 laidPiece s sent p o k = laid (p .adds) (part s (p .to + o) k) (mixed (p .mirror) (part sent o k) (part s (p .from + o) k))
 
 unfoldable pub passedPiece : List ℕ → List ℕ → Pass → ℕ → ℕ → List ℕ
-passedPiece s sent p o k = put (put s (p .from + o) (dataPiece sent p o k)) (p .to + o) (laidPiece s sent p o k)
+passedPiece s sent p o k = put s (p .to + o) (laidPiece s sent p o k)

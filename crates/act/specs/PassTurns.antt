@@ -3,19 +3,18 @@ use Prim.Native.Nat.{ℕ, _+_, _≤_}
 use native.Mathlib.Omega.{arith}
 use mathlib.Core.Path.{_≡_, refl, sym, ap, ap₂, _∙_}
 use mathlib.Core.Bool.{Bool, true, false, cond}
-use mathlib.Core.Logic.{inl, inr, ⊎-elim}
-use mathlib.Core.List.{List, []}
+use mathlib.Core.List.{List}
 use lib.Dec.{eqb}
 use lib.ListN.{length}
-use Rattle.octets.specs.Part.{part, length-part, length-part-le, part-part, part-whole, part-nil}
+use Rattle.octets.specs.Part.{part, length-part, length-part-le, part-part, part-whole}
 use Rattle.octets.specs.Put.{put, put-nil, length-put}
-use Rattle.octets.specs.PutPut.{part-put-above, put-comm}
+use Rattle.octets.specs.PutPut.{part-put-above}
 use Rattle.octets.specs.Pieces.{put-parts, part-ahead}
 use Rattle.octets.specs.Xor.{_⊻_, part-xor}
 use Rattle.meaning.specs.Acts.{mixed, laid}
 use Rattle.meaning.specs.Lengths.{length-laid, length-mixed}
 use Rattle.act.specs.declared.pass.Pass.{Pass}
-use Rattle.act.specs.Pass.{dataOf, laidOf, passedOf, laidPiece, passedPiece, Passable}
+use Rattle.act.specs.Pass.{laidOf, passedOf, laidPiece, passedPiece, Passable}
 
 -- ---- a piece of the whole
 
@@ -27,10 +26,6 @@ laid-part : (adds : Bool) (xs ys : List ℕ) (o k : ℕ) → part (laid adds xs 
 laid-part true xs ys o k = part-xor xs ys o k
 laid-part false xs ys o k = refl
 
-data-part : (writes : Bool) (xs : List ℕ) (o k : ℕ) → part (cond writes xs []) o k ≡ cond writes (part xs o k) []
-data-part true xs o k = refl
-data-part false xs o k = part-nil o k
-
 piece-of : (s sent : List ℕ) (p : Pass) (o k : ℕ) → o + k ≤ length sent → part (laidOf s sent p) o k ≡ laidPiece s sent p o k
 piece-of s sent p o k h =
     let n = length sent in
@@ -39,10 +34,6 @@ piece-of s sent p o k h =
     (mixed-part (eqb (p .mirror) 0) sent (part s (p .from) n) o k ∙ ap (mixed (p .mirror) (part sent o k)) (part-part s (p .from) n o k h))
 
 -- ---- lengths
-
-data-length : (writes : Bool) (xs : List ℕ) → length (cond writes xs []) ≤ length xs
-data-length true xs = omega arith
-data-length false xs = omega arith
 
 module _ (s sent : List ℕ) (p : Pass) (h : Passable s sent p) where
   laidOf-length : length (laidOf s sent p) ≡ length sent
@@ -57,72 +48,46 @@ module _ (s sent : List ℕ) (p : Pass) (h : Passable s sent p) where
 
 module _ (s sent : List ℕ) (p : Pass) where
   unfoldable pub passedTo : ℕ → List ℕ
-  passedTo o = put (put s (p .from) (part (dataOf sent p) 0 o)) (p .to) (part (laidOf s sent p) 0 o)
+  passedTo o = put s (p .to) (part (laidOf s sent p) 0 o)
 
   pub passed-none : s ≡ passedTo 0
   unfolding passedTo part
-  passed-none = sym (put-nil (put s (p .from) []) (p .to) ∙ put-nil s (p .from))
+  passed-none = sym (put-nil s (p .to))
 
   module _ (h : Passable s sent p) (o : ℕ) (t : List ℕ) (e : t ≡ passedTo o) where
-    passed-length : length t ≡ length s
-    unfolding passedTo
-    passed-length =
-        ap length e
-        ∙ length-put (put s (p .from) (part (dataOf sent p) 0 o)) (p .to) (part (laidOf s sent p) 0 o)
-        ∙ length-put s (p .from) (part (dataOf sent p) 0 o)
-
     pub still-passable : Passable t sent p
+    unfolding passedTo
     still-passable =
-        let l = passed-length in
+        let l : length t ≡ length s = ap length e ∙ length-put s (p .to) (part (laidOf s sent p) 0 o) in
         record { from-in = omega (arith, h .from-in); to-in = omega (arith, h .to-in); apart = h .apart }
 
     module _ (k : ℕ) (le : o + k ≤ length sent) where
-      abbrev data-done : List ℕ
-      data-done = part (dataOf sent p) 0 o
-
-      abbrev laid-done : List ℕ
-      laid-done = part (laidOf s sent p) 0 o
+      abbrev done : List ℕ
+      done = part (laidOf s sent p) 0 o
 
       -- what is not yet passed on stands as it was
       from-kept : part t (p .from + o) k ≡ part s (p .from + o) k
       unfolding passedTo
       from-kept =
           ap (λ (w : List ℕ). part w (p .from + o) k) e
-          ∙ part-ahead (put s (p .from) data-done) (p .to) (length sent) o k laid-done le (length-part-le (laidOf s sent p) 0 o) (p .from) (h .apart)
-          ∙ part-put-above s (p .from) data-done (p .from + o) k (omega (arith, length-part-le (dataOf sent p) 0 o))
+          ∙ part-ahead s (p .to) (length sent) o k done le (length-part-le (laidOf s sent p) 0 o) (p .from) (h .apart)
 
       to-kept : part t (p .to + o) k ≡ part s (p .to + o) k
       unfolding passedTo
       to-kept =
           ap (λ (w : List ℕ). part w (p .to + o) k) e
-          ∙ part-put-above (put s (p .from) data-done) (p .to) laid-done (p .to + o) k (omega (arith, length-part-le (laidOf s sent p) 0 o))
-          ∙ part-ahead s (p .from) (length sent) o k data-done le (length-part-le (dataOf sent p) 0 o) (p .to) (⊎-elim (λ l. inr l) (λ l. inl l) (h .apart))
-
-      piece-kept : laidPiece t sent p o k ≡ part (laidOf s sent p) o k
-      piece-kept =
-          ap₂ (λ (x y : List ℕ). laid (p .adds) x (mixed (p .mirror) (part sent o k) y)) to-kept from-kept ∙ sym (piece-of s sent p o k le)
-
-      -- data beyond what was passed on, and what was passed on, change places
-      swap : (w b d : List ℕ) → length b ≤ o → length d ≤ k → put (put w (p .to) b) (p .from + o) d ≡ put (put w (p .from + o) d) (p .to) b
-      swap w b d lb ld =
-          ⊎-elim (λ l. sym (put-comm w (p .from + o) d (p .to) b (omega arith))) (λ l. put-comm w (p .to) b (p .from + o) d (omega arith)) (h .apart)
+          ∙ part-put-above s (p .to) done (p .to + o) k (omega (arith, length-part-le (laidOf s sent p) 0 o))
 
       pub passed-more : (u : List ℕ) → u ≡ passedPiece t sent p o k → u ≡ passedTo (o + k)
       unfolding passedTo passedPiece
       passed-more u ue =
-          let v = dataOf sent p in
           let r = laidOf s sent p in
-          let a = put s (p .from) (part v 0 o) in
           ue
-          ∙ ap₂ (λ (x y : List ℕ). put (put t (p .from + o) x) (p .to + o) y) (sym (data-part (p .writes) sent o k)) piece-kept
-          ∙ ap (λ (x : List ℕ). put (put x (p .from + o) (part v o k)) (p .to + o) (part r o k)) e
-          ∙ ap (λ (x : List ℕ). put x (p .to + o) (part r o k)) (swap a (part r 0 o) (part v o k) (length-part-le r 0 o) (length-part-le v o k))
-          ∙ ap (λ (x : List ℕ). put (put x (p .to) (part r 0 o)) (p .to + o) (part r o k)) (put-parts s (p .from) v o k)
-          ∙ put-parts (put s (p .from) (part v 0 (o + k))) (p .to) r o k
+          ∙ ap (put t (p .to + o))
+          (ap₂ (λ (x y : List ℕ). laid (p .adds) x (mixed (p .mirror) (part sent o k) y)) to-kept from-kept ∙ sym (piece-of s sent p o k le))
+          ∙ ap (λ (x : List ℕ). put x (p .to + o) (part r o k)) e
+          ∙ put-parts s (p .to) r o k
 
     pub passed-all : length sent ≤ o → t ≡ passedOf s sent p
     unfolding passedTo passedOf
-    passed-all le =
-        e
-        ∙ ap₂ (λ (x y : List ℕ). put (put s (p .from) x) (p .to) y) (part-whole (dataOf sent p) o (omega (arith, data-length (p .writes) sent)))
-        (part-whole (laidOf s sent p) o (omega (arith, laidOf-length s sent p h)))
+    passed-all le = e ∙ ap (put s (p .to)) (part-whole (laidOf s sent p) o (omega (arith, laidOf-length s sent p h)))

@@ -13,6 +13,7 @@ use Rattle.octets.specs.Put.{put, put-cut}
 use Rattle.octets.specs.Xor.{_⊻_, length-xor-le}
 use Rattle.geometry.specs.declared.Geometry.{Geometry}
 use Rattle.geometry.specs.Header.{slotAt, dataAt}
+use Rattle.geometry.specs.Stores.{store, Slots}
 use Rattle.geometry.specs.Frame.{Framed}
 use Rattle.geometry.specs.Places.{Range, places-apart, slot-before-media, data-ends, data-in}
 use Rattle.slots.specs.Record.{bytesOf}
@@ -20,8 +21,8 @@ use Rattle.slots.specs.Slots.{usedCount}
 use Rattle.slots.specs.Change.{entry}
 use Rattle.meaning.specs.declared.Span.{Span}
 use Rattle.meaning.specs.declared.Act.the-variants.{Couple, Retain, XdWriteRead}
-use Rattle.meaning.specs.Acts.{store, spanAt, blocksOf, mixed, laid, leaves, hands}
-use Rattle.meaning.specs.Stores.{stored-data, stored-alone}
+use Rattle.meaning.specs.Acts.{spanAt, blocksOf, mixed, laid, leaves, hands}
+use Rattle.meaning.specs.Stores.{stored-data}
 use Rattle.meaning.specs.Allowed.{Blocks, Filled, Roomy, Limited, Free}
 use Rattle.meaning.specs.Lengths.{span-after-media, span-in}
 use Rattle.act.specs.declared.pass.Pass.{Pass}
@@ -30,7 +31,7 @@ use Rattle.act.specs.Pass.{passedOf, Passable}
 -- ---- the result goes to the secondary
 
 abbrev coupling : ℕ → ℕ → ℕ → Pass
-coupling from to mirror = record { from = from; to = to; mirror = mirror; writes = true; adds = eqb mirror 0 }
+coupling from to mirror = record { from = from; to = to; mirror = mirror; adds = eqb mirror 0 }
 
 module _ (s : List ℕ) (g : Geometry) (x y : Span) (mirror from to : ℕ) (sent : List ℕ) (same : x .count ≡ y .count) (f : Filled g x sent)
     (fe : from ≡ spanAt g x) (te : to ≡ spanAt g y) where
@@ -44,23 +45,24 @@ module _ (s : List ℕ) (g : Geometry) (x y : Span) (mirror from to : ℕ) (sent
         apart = ⊎-elim (λ l. inl (omega (arith, f))) (λ l. inr (omega (arith, f))) (places-apart g (x .drive) (y .drive) (x .block .0) (y .block .0) (x .count) ne (b .range) r);
       }
 
-  pub coupled-by : (t : List ℕ) → t ≡ passedOf s sent (coupling from to mirror) → t ≡ leaves s g sent (Couple x y mirror)
+  pub coupled-by : (t u : List ℕ) → t ≡ passedOf s sent (coupling from to mirror) → u ≡ put t from sent → u ≡ leaves s g sent (Couple x y mirror)
   unfolding passedOf
-  coupled-by t e =
+  coupled-by t u e ue =
       let m : length sent ≡ y .count * g .l = f ∙ ap (λ (k : ℕ). k * g .l) same in
       let v : List ℕ = mixed mirror sent (part s (spanAt g x) (x .count * g .l)) in
-      e
-      ∙ ap₂ (λ (a n : ℕ). put (put s a sent) to (laid (eqb mirror 0) (part s to (length sent)) (mixed mirror sent (part s a n)))) fe f
-      ∙ ap₂ (λ (a n : ℕ). put (put s (spanAt g x) sent) a (laid (eqb mirror 0) (part s a n) v)) te m
+      ue
+      ∙ ap (λ (w : List ℕ). put w from sent) e
+      ∙ ap₂ (λ (a n : ℕ). put (put s to (laid (eqb mirror 0) (part s to (length sent)) (mixed mirror sent (part s a n)))) a sent) fe f
+      ∙ ap₂ (λ (a n : ℕ). put (put s a (laid (eqb mirror 0) (part s a n) v)) (spanAt g x) sent) te m
 
 -- ---- the result is retained
 
-abbrev retaining : ℕ → ℕ → ℕ → ℕ → Pass
-retaining from at mirror ndisc = record { from = from; to = at + 16; mirror = mirror; writes = eqb ndisc 0; adds = false }
+abbrev retaining : ℕ → ℕ → ℕ → Pass
+retaining from at mirror = record { from = from; to = at + 16; mirror = mirror; adds = false }
 
 module _ (s : List ℕ) (g : Geometry) (x : Span) (i mirror ndisc from at : ℕ) (sent : List ℕ) (f : Filled g x sent)
     (fe : from ≡ spanAt g x) (ae : at ≡ slotAt g i) where
-  pub retain-passable : Framed s g → Blocks s g x → Limited g x → Free s g i → Passable s sent (retaining from at mirror ndisc)
+  pub retain-passable : Framed s g → Blocks s g x → Limited g x → Free s g i → Passable s sent (retaining from at mirror)
   retain-passable frame b m k =
       let a = span-after-media g x in
       let d : dataAt g i + length sent ≤ g .media =
@@ -71,17 +73,18 @@ module _ (s : List ℕ) (g : Geometry) (x : Span) (i mirror ndisc from at : ℕ)
         apart = inr (omega arith);
       }
 
-  pub retained-by : (rank : ℕ) (t u : List ℕ) → rank ≡ usedCount s g + 1 → t ≡ passedOf s sent (retaining from at mirror ndisc)
-      → u ≡ put t at (bytesOf (entry rank 1 (x .drive) (x .block .0) (x .count))) → u ≡ leaves s g sent (Retain x i mirror ndisc)
+  pub retained-by : (rank : ℕ) (t u v : List ℕ) → rank ≡ usedCount s g + 1 → t ≡ passedOf s sent (retaining from at mirror)
+      → u ≡ put t from (cond (eqb ndisc 0) sent []) → v ≡ put u at (bytesOf (entry rank 1 (x .drive) (x .block .0) (x .count))) → v ≡ leaves s g sent (Retain x i mirror ndisc)
   unfolding passedOf
-  retained-by rank t u re te ue =
+  retained-by rank t u v re te ue ve =
       let r : List ℕ = bytesOf (entry (usedCount s g + 1) 1 (x .drive) (x .block .0) (x .count)) in
-      let v : List ℕ = mixed mirror sent (part s (spanAt g x) (x .count * g .l)) in
-      ue
-      ∙ ap₂ (λ (w : List ℕ) (n : ℕ). put w at (bytesOf (entry n 1 (x .drive) (x .block .0) (x .count)))) te re
-      ∙ ap₂ (λ (a n : ℕ). put (put (put s a (cond (eqb ndisc 0) sent [])) (at + 16) (mixed mirror sent (part s a n))) at r) fe f
-      ∙ ap (λ (a : ℕ). put (put (put s (spanAt g x) (cond (eqb ndisc 0) sent [])) (a + 16) v) a r) ae
-      ∙ sym (stored-data s g x ndisc sent (store (dataAt g i) v ∷ store (slotAt g i) r ∷ []))
+      let d : List ℕ = cond (eqb ndisc 0) sent [] in
+      let w : List ℕ = mixed mirror sent (part s (spanAt g x) (x .count * g .l)) in
+      ve
+      ∙ ap₂ (λ (w : List ℕ) (n : ℕ). put w at (bytesOf (entry n 1 (x .drive) (x .block .0) (x .count)))) (ue ∙ ap (λ (w : List ℕ). put w from d) te) re
+      ∙ ap₂ (λ (a n : ℕ). put (put (put s (at + 16) (mixed mirror sent (part s a n))) a d) at r) fe f
+      ∙ ap (λ (a : ℕ). put (put (put s (a + 16) w) (spanAt g x) d) a r) ae
+      ∙ sym (stored-data (put s (dataAt g i) w) g x ndisc sent (store Slots (slotAt g i) r ∷ []))
 
 -- ---- the result goes to the room's front
 
@@ -93,7 +96,7 @@ module _ (g : Geometry) (x : Span) (sent room : List ℕ) (f : Filled g x sent) 
   -- it became v, and the image t
   pub xdwriteread-by : (s : List ℕ) (disable at : ℕ) (v t : List ℕ) → at ≡ spanAt g x
       → v ≡ mixed 0 (part sent 0 (length (take (length sent) room))) (part s at (length (take (length sent) room)))
-      → t ≡ put s at (cond (eqb disable 0) (part sent 0 (length sent)) [])
+      → t ≡ put s at (cond (eqb disable 0) sent [])
       → (t ≡ leaves s g sent (XdWriteRead x disable)) × (v ++ drop (length sent) room ≡ put room 0 (hands s g sent (XdWriteRead x disable))) × (length sent ≡ length (hands s g sent (XdWriteRead x disable)))
   xdwriteread-by s disable at v t e ve te =
       let n : length (sent ⊻ blocksOf s g x) ≡ length sent =
@@ -105,8 +108,6 @@ module _ (g : Geometry) (x : Span) (sent room : List ℕ) (f : Filled g x sent) 
       ∙ ap (λ (j : ℕ). sent ⊻ part s (spanAt g x) j) f in
       let l : length v ≡ length sent = ap length q ∙ n in
       let image =
-      te
-      ∙ ap₂ (λ (a : ℕ) (y : List ℕ). put s a (cond (eqb disable 0) y [])) e (part-all sent)
-      ∙ sym (stored-alone s g x disable sent) in
+      te ∙ ap (λ (a : ℕ). put s a (cond (eqb disable 0) sent [])) e ∙ sym (stored-data s g x disable sent []) in
       let front = ap (λ (j : ℕ). v ++ drop j room) (sym l) ∙ sym (put-cut room 0 v (omega (arith, f, r))) ∙ ap (put room 0) q in
       (image, front, sym n)

@@ -1,5 +1,5 @@
-// XDWRITE's bytes, piece by piece: no copy of the whole range is made, old blocks are read before
-// data is written over them, and of each piece the data is stored first.
+// XDWRITE's result, piece by piece: no copy of the whole range is made. The data is written after all of
+// it, so that the old blocks stand while they are read.
 ghost use mathlib.Core.Path.{_≡_};
 ghost use mathlib.Core.Bool.{cond};
 ghost use mathlib.Core.List.{[]};
@@ -11,12 +11,11 @@ ghost use Rattle.meaning.specs.Acts.{mixed, laid};
 ghost use Rattle.act.specs.Pass.{passedOf, passedPiece, Passable};
 
 // The result of the bytes sent over those at index from goes to index to, with adds XORed into what
-// is there; with writes the bytes sent go to index from.
+// is there.
 pub struct Pass {
     pub from: usize,
     pub to: usize,
     pub mirror: usize,
-    pub writes: bool,
     pub adds: bool,
 }
 
@@ -59,7 +58,6 @@ fn pass_piece(image: &mut [u8], sent: &[u8], p: Pass, o: usize, acc: &mut [u8])
     let from = p.from + o;
     let to = p.to + o;
     mix(acc, image, from, p.mirror, sent, o);
-    write_data(image, from, p.writes, sent, o, acc.len());
     lay(image, to, p.adds, acc);
 }
 
@@ -74,13 +72,13 @@ pub fn mix(acc: &mut [u8], image: &[u8], from: usize, mirror: usize, sent: &[u8]
     }
 }
 
-// With writes, the k bytes sent from o on go to index at.
-pub fn write_data(image: &mut [u8], at: usize, writes: bool, sent: &[u8], o: usize, k: usize)
-    requires { ⌜ (at + k ≤ length (now image)) × (o + k ≤ length (now sent)) ⌝ }
-    ensures { λ _. ⌜ now (image .exit) ≡ put (now (image .entry)) at (cond writes (part (now (sent .entry)) o k) []) ⌝ }
+// With writes, the bytes sent go to index at.
+pub fn write_data(image: &mut [u8], at: usize, writes: bool, sent: &[u8])
+    requires { ⌜ at + length (now sent) ≤ length (now image) ⌝ }
+    ensures { λ _. ⌜ now (image .exit) ≡ put (now (image .entry)) at (cond writes (now (sent .entry)) []) ⌝ }
 {
     if writes {
-        octets::put_at(image, at, &sent[o..o + k]);
+        octets::put_at(image, at, sent);
     }
 }
 

@@ -12,7 +12,7 @@ ghost use Rattle.meaning.specs.declared.Act.the-variants.{Couple, Retain, XdWri
 ghost use Rattle.meaning.specs.Acts.{leaves, hands};
 ghost use Rattle.meaning.specs.Allowed.{Allowed};
 
-// Sec Ctl 00 or 10: the data goes to the blocks of x, the result to those of y.
+// Sec Ctl 00 or 10: the result goes to the blocks of y, and then the data to those of x.
 pub fn couple(image: &mut [u8], g: Geometry, x: Span, y: Span, mirror: usize, sent: &[u8])
     requires { ⌜ Framed (now image) g × Allowed (now image) g (now sent) 0 (Couple x y mirror) ⌝ }
     ensures { λ _. ⌜ now (image .exit) ≡ leaves (now (image .entry)) g (now (sent .entry)) (Couple x y mirror) ⌝ }
@@ -23,14 +23,14 @@ pub fn couple(image: &mut [u8], g: Geometry, x: Span, y: Span, mirror: usize, se
         from: from,
         to: to,
         mirror: mirror,
-        writes: true,
         adds: mirror == 0,
     };
     crate::pass::pass_on(image, sent, p);
+    octets::put_at(image, from, sent);
 }
 
-// Sec Ctl 11, or XDWRITE(10): the data goes to the blocks of x unless ndisc (NDisc, or DISABLE WRITE) is set,
-// and the result to slot i.
+// Sec Ctl 11, or XDWRITE(10): the result goes to slot i, then the data to the blocks of x unless ndisc (NDisc,
+// or DISABLE WRITE) is set, and last the slot's record.
 pub fn retain(
     image: &mut [u8],
     g: Geometry,
@@ -50,10 +50,10 @@ pub fn retain(
         from: from,
         to: at + RECORD,
         mirror: mirror,
-        writes: ndisc == 0,
         adds: false,
     };
     crate::pass::pass_on(image, sent, p);
+    crate::pass::write_data(image, from, ndisc == 0, sent);
     slots::write_record(image, at, crate::keep::entry_of(rank, 1, x));
 }
 
@@ -73,6 +73,6 @@ pub fn xdwriteread(
     let at = g.place(x.drive, x.block);
     let n = sent.len();
     crate::pass::mix(&mut room[..n], image, at, 0, sent, 0);
-    crate::pass::write_data(image, at, disable == 0, sent, 0, n);
+    crate::pass::write_data(image, at, disable == 0, sent);
     n
 }

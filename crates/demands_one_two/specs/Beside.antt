@@ -1,110 +1,85 @@
 -- "In every GOOD answer only the named blocks of the media involved are written, besides the slots."
-use mathlib.Core.Path.{_≡_, refl, sym, ap, _∙_}
-use mathlib.Core.Bool.{Bool, true, false, cond}
+use mathlib.Core.Path.{_≡_, refl, sym, ap, subst, _∙_}
 use mathlib.Core.Logic.{_⊎_, inl, inr, ⊎-elim}
-use mathlib.Core.List.{List, []}
+use mathlib.Core.List.{List, [], _∷_}
 use Prim.Native.Nat.{ℕ, _+_, _*_, _≤_}
 use native.Mathlib.Omega.{arith}
-use lib.Dec.{eqb}
-use lib.ListN.{length}
 use Rattle.octets.specs.Part.{part}
-use Rattle.octets.specs.Put.{put, put-nil}
+use Rattle.octets.specs.Put.{put}
 use Rattle.octets.specs.PutPut.{part-put-apart}
-use Rattle.octets.specs.Xor.{_⊻_, length-xor-le}
+use Rattle.folds.specs.Each.{EachIs}
 use Rattle.geometry.specs.declared.Geometry.{Geometry}
 use Rattle.geometry.specs.Frame.{Placed}
+use Rattle.geometry.specs.Stores.{stored}
 use Rattle.geometry.specs.Outside.{Away, outside-away}
-use Rattle.slots.specs.Kept.{media-empty}
+use Rattle.slots.specs.Kept.{kept-empty}
+use Rattle.results.specs.Best.{newest-at}
 use Rattle.results.specs.Release.{release-part}
 use Rattle.results.specs.Retain.{retain-away}
 use Rattle.image.specs.Shelf.{Shelf, shelf-frame}
-use Rattle.image.specs.Keeps.{shelf-written}
 use Rattle.meaning.specs.declared.Span.{Span}
 use Rattle.meaning.specs.declared.Act.{Act}
-use Rattle.meaning.specs.declared.Act.the-variants.{Read, Write, XpWrite, XdRead, Couple, Retain, Rebuild, Regenerate, XdWriteRead}
-use Rattle.meaning.specs.Acts.{spanAt, blocksOf, resultOf, passedOn, gathered, leaves}
-use Rattle.meaning.specs.Stores.{stored-alone}
-use Rattle.meaning.specs.Allowed.{Blocks, Filled, Allowed}
-use Rattle.meaning.specs.Lengths.{span-after-media, length-laid, length-blocks, length-result, length-gathered}
-use Rattle.demands_one_two.specs.Leaves.{resultIn, stored-result, retain-leaves}
-use Rattle.demands_one_two.specs.Valid.{retained-sound, regenerated-sound}
+use Rattle.meaning.specs.Acts.{spanAt, Over, Change, Stays, Comes, Goes, Effect, storesIn, effectOf, leaves}
+use Rattle.meaning.specs.Allowed.{Allowed}
+use Rattle.meaning.specs.Lengths.{span-after-media}
+use Rattle.demands_one_two.specs.Effects.{resultIn, written, changed, Covers, Possible, Fine, written-slots, in-form}
+use Rattle.demands_one_two.specs.Fine.{fine}
+use Rattle.demands_one_two.specs.Valid.{written-shelf}
 
 -- n bytes from index a on lie apart from a span's blocks
-abbrev pub OffSpan : Geometry → Span → ℕ → ℕ → Type 0
-OffSpan g x a n = (a + n ≤ spanAt g x) ⊎ (spanAt g x + x .count * g .l ≤ a)
+abbrev pub OffSpan : Geometry → ℕ → ℕ → Span → Type 0
+OffSpan g a n x = (a + n ≤ spanAt g x) ⊎ (spanAt g x + x .count * g .l ≤ a)
 
--- and from all that an act writes: the blocks that it names, and the slots where it retains or hands over a result
-abbrev pub Beside : Geometry → Act → ℕ → ℕ → Type 0
-Beside g (Read x) a n = Unit {0}
-Beside g (Write x) a n = OffSpan g x a n
-Beside g (XpWrite x) a n = OffSpan g x a n
-Beside g (XdRead x i) a n = Away g a n
-Beside g (Couple x y mirror) a n = OffSpan g x a n × OffSpan g y a n
-Beside g (Retain x i mirror ndisc) a n = Away g a n × (eqb ndisc 0 ≡ true → OffSpan g x a n)
-Beside g (Rebuild x k int) a n = OffSpan g x a n
-Beside g (Regenerate x k int i) a n = Away g a n
-Beside g (XdWriteRead x disable) a n = eqb disable 0 ≡ true → OffSpan g x a n
+-- and from the slots, where a result comes or goes
+abbrev pub OffSlots : Geometry → ℕ → ℕ → Change → Type 0
+OffSlots g a n Stays = Unit {0}
+OffSlots g a n (Comes i kind x bytes) = Away g a n
+OffSlots g a n (Goes i x) = Away g a n
+
+-- apart from all that an act writes
+abbrev pub Beside : Geometry → ℕ → ℕ → Effect → Type 0
+Beside g a n e = EachIs (λ w. OffSpan g a n (w .blocks)) (e .writes) × OffSlots g a n (e .change)
 
 -- no act writes before the slots
 module _ (g : Geometry) (p : Placed g) where
-  before : (x : Span) → OffSpan g x 0 (g .slots)
-  before x = inl (omega (arith, span-after-media g x, p .slots-is, p .media-is))
+  pub front-beside : (e : Effect) → Beside g 0 (g .slots) e
+  front-beside e = (before (e .writes), pick (e .change))
+    where
+      before : (ws : List Over) → EachIs (λ w. OffSpan g 0 (g .slots) (w .blocks)) ws
+      before [] = tt
+      before (w ∷ ws) = (inl (omega (arith, span-after-media g (w .blocks), p .slots-is, p .media-is)), before ws)
 
-  pub front-beside : (act : Act) → Beside g act 0 (g .slots)
-  front-beside (Read x) = tt
-  front-beside (Write x) = before x
-  front-beside (XpWrite x) = before x
-  front-beside (XdRead x i) = inl (omega arith)
-  front-beside (Couple x y mirror) = (before x, before y)
-  front-beside (Retain x i mirror ndisc) = (inl (omega arith), λ e. before x)
-  front-beside (Rebuild x k int) = before x
-  front-beside (Regenerate x k int i) = inl (omega arith)
-  front-beside (XdWriteRead x disable) = λ e. before x
+      pick : (c : Change) → OffSlots g 0 (g .slots) c
+      pick Stays = tt
+      pick (Comes i kind x bytes) = inl (omega arith)
+      pick (Goes i x) = inl (omega arith)
 
-module _ (s : List ℕ) (g : Geometry) (h : Shelf s g) (sent : List ℕ) (a n : ℕ) where
-  -- a write as long as the span
-  off-span : (t : List ℕ) (x : Span) (ys : List ℕ) → length ys ≡ x .count * g .l → OffSpan g x a n → part (put t (spanAt g x) ys) a n ≡ part t a n
-  off-span t x ys e w = part-put-apart t (spanAt g x) ys a n (⊎-elim (λ l. inl l) (λ l. inr (omega arith)) w)
+module _ (g : Geometry) (a n : ℕ) where
+  written-beside : (m : List ℕ) (ws : List Over) → EachIs (Covers g) ws → EachIs (λ w. OffSpan g a n (w .blocks)) ws → part (written m g ws) a n ≡ part m a n
+  written-beside m [] c o = refl
+  written-beside m (w ∷ ws) (c, cs) (o, os) =
+      let at = spanAt g (w .blocks) in
+      written-beside (put m at (w .bytes)) ws cs os ∙ part-put-apart m at (w .bytes) a n (⊎-elim (λ l. inl l) (λ l. inr (omega (arith, c .exact))) o)
 
-  length-passed : (x y : Span) (mirror : ℕ) → Blocks s g x → Blocks s g y → x .count ≡ y .count → Filled g x sent → length (passedOn s g x y mirror sent) ≡ y .count * g .l
-  length-passed x y mirror bx by e l =
-      let q : length (resultOf s g x mirror sent) ≡ y .count * g .l =
-      length-result s g (shelf-frame s g h) x bx mirror sent l ∙ ap (λ (k : ℕ). k * g .l) e in
-      length-laid (eqb mirror 0) (blocksOf s g y) (resultOf s g x mirror sent) (length-blocks s g (shelf-frame s g h) y by ∙ sym q) ∙ q
+module _ (m : List ℕ) (g : Geometry) (h : Shelf m g) (a n : ℕ) where
+  -- a result that comes or goes changes slots alone
+  changed-beside : (ws : List Over) (c : Change) → Possible m g ws c → OffSlots g a n c → part (changed (written m g ws) g c) a n ≡ part (written m g ws) a n
+  changed-beside ws Stays p o = refl
+  changed-beside ws (Comes i kind x bytes) (e, sound) o =
+      let t = written m g ws in
+      let ht = written-shelf g m h ws in
+      let p = shelf-frame m g h .placed in
+      retain-away t g (shelf-frame t g ht) (ht .slots-ok) i (kept-empty m t g p (written-slots g p m ws) ∙ e) (resultIn kind x bytes) sound a n o
+  changed-beside ws (Goes i x) (e, q) o =
+      let p = shelf-frame m g h .placed in
+      release-part (written m g ws) g i a n (newest-at m g (x .drive) (x .block .0) i e .inside) (outside-away g a n p o)
 
-  -- a result that comes changes slots alone, beside the data
-  pub retain-beside : (room : ℕ) (x : Span) (i mirror ndisc : ℕ) → Allowed s g sent room (Retain x i mirror ndisc) → Away g a n
-      → part (leaves s g sent (Retain x i mirror ndisc)) a n ≡ part (put s (spanAt g x) (cond (eqb ndisc 0) sent [])) a n
-  retain-beside room x i mirror ndisc (b, e, m, v) away =
-      let p = shelf-frame s g h .placed in
-      let ys = cond (eqb ndisc 0) sent [] in
-      let media = span-after-media g x in
-      let w = put s (spanAt g x) ys in
-      let hw = shelf-written s g h (spanAt g x) ys media in
-      ap (λ (t : List ℕ). part t a n) (retain-leaves s g sent x i mirror ndisc p (v .takes))
-      ∙ retain-away w g (shelf-frame w g hw) (hw .slots-ok) i (media-empty s g (spanAt g x) ys p media ∙ v .takes) (resultIn 1 x (resultOf s g x mirror sent))
-      (retained-sound s g h sent x mirror b e m) a n away
+  -- so away from the slots an effect is the blocks written
+  pub effect-media : (room : ℕ) (e : Effect) → Fine m g room e → OffSlots g a n (e .change) → part (stored m (storesIn m g e)) a n ≡ part (written m g (e .writes)) a n
+  effect-media room e f o = ap (λ (t : List ℕ). part t a n) (in-form g (shelf-frame m g h .placed) m room e f) ∙ changed-beside (e .writes) (e .change) (f .possible) o
 
-  -- and the data, where it is written, the span's blocks
-  data-beside : (x : Span) → Filled g x sent → (writes : Bool) → (writes ≡ true → OffSpan g x a n) → part (put s (spanAt g x) (cond writes sent [])) a n ≡ part s a n
-  data-beside x e true k = off-span s x sent e (k refl)
-  data-beside x e false k = ap (λ (t : List ℕ). part t a n) (put-nil s (spanAt g x))
+  pub effect-beside : (room : ℕ) (e : Effect) → Fine m g room e → Beside g a n e → part (stored m (storesIn m g e)) a n ≡ part m a n
+  effect-beside room e f o = effect-media room e f (o .1) ∙ written-beside g a n m (e .writes) (f .covers) (o .0)
 
-  pub leaves-beside : (room : ℕ) (act : Act) → Allowed s g sent room act → Beside g act a n → part (leaves s g sent act) a n ≡ part s a n
-  leaves-beside room (Read x) al w = refl
-  leaves-beside room (Write x) al w = off-span s x sent (al .1) w
-  leaves-beside room (XpWrite x) al w =
-      let p = length-blocks s g (shelf-frame s g h) x (al .0) in
-      off-span s x (blocksOf s g x ⊻ sent) (length-xor-le (blocksOf s g x) sent (omega (arith, al .1)) ∙ p) w
-  leaves-beside room (XdRead x i) al w = release-part s g i a n (al .0 .slot-in) (outside-away g a n (shelf-frame s g h .placed) w)
-  leaves-beside room (Couple x y mirror) al w =
-      off-span (put s (spanAt g x) sent) y (passedOn s g x y mirror sent) (length-passed x y mirror (al .0) (al .1) (al .2) (al .4)) (w .1) ∙ off-span s x sent (al .4) (w .0)
-  leaves-beside room (Retain x i mirror ndisc) al w = retain-beside room x i mirror ndisc al (w .0) ∙ data-beside x (al .1) (eqb ndisc 0) (w .1)
-  leaves-beside room (Rebuild x k int) al w = off-span s x (gathered s g sent (x .count) k int) (length-gathered s g x k int sent (shelf-frame s g h) (al .1)) w
-  leaves-beside room (Regenerate x k int i) al w =
-      let bytes = blocksOf s g x ⊻ gathered s g sent (x .count) k int in
-      ap (λ (t : List ℕ). part t a n) (stored-result s g i 2 x bytes (al .3 .takes))
-      ∙ retain-away s g (shelf-frame s g h) (h .slots-ok) i (al .3 .takes) (resultIn 2 x bytes)
-      (regenerated-sound s g h sent x k int (al .0) (al .1) (al .2)) a n w
-  leaves-beside room (XdWriteRead x disable) al w =
-      ap (λ (t : List ℕ). part t a n) (stored-alone s g x disable sent) ∙ data-beside x (al .1) (eqb disable 0) w
+  pub leaves-beside : (s : List ℕ) (room : ℕ) (act : Act) → Allowed m g s room act → Beside g a n (effectOf m g s act) → part (leaves m g s act) a n ≡ part m a n
+  leaves-beside s room act al = effect-beside room (effectOf m g s act) (fine m g (shelf-frame m g h) s room act al)

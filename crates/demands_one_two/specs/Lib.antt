@@ -1,4 +1,5 @@
-pub mod Leaves
+pub mod Effects
+pub mod Fine
 pub mod Valid
 pub mod Beside
 pub mod Retained

@@ -15,7 +15,7 @@ use Rattle.sense.specs.declared.Answer.the-variants.{Good}
 use Rattle.meaning.specs.declared.Act.{Act}
 use Rattle.meaning.specs.declared.Decision.{Decision}
 use Rattle.meaning.specs.declared.Decision.the-variants.{Stop, Go}
-use Rattle.meaning.specs.Acts.{leaves, hands}
+use Rattle.meaning.specs.Acts.{effectOf, leaves, hands}
 use Rattle.meaning.specs.Step.{decided, imageAfter, roomAfter, outcomeAfter, stepImage, stepRoom, stepOutcome}
 use Rattle.grants.specs.Granted.{granted, allowed-at}
 use Rattle.demands_one_two.specs.Valid.{leaves-shelf}
@@ -43,11 +43,11 @@ module _ (m : List ℕ) (a : ℕ) (c s r : List ℕ) where
           (leaves-shelf m g h s (length r) act (allowed-at m g h a c s (length r) act x e))
 
   -- a command that is carried out leaves every byte beside what it names, and the room past the count
-  pub step-beside : (act : Act) (x : Answer) → decided m a c s r ≡ Go act x → (i n : ℕ) → Beside (geometryOf m) act i n → part (stepImage m a c s r) i n ≡ part m i n
+  pub step-beside : (act : Act) (x : Answer) → decided m a c s r ≡ Go act x → (i n : ℕ) → Beside (geometryOf m) i n (effectOf m (geometryOf m) s act) → part (stepImage m a c s r) i n ≡ part m i n
   unfolding stepImage
   step-beside act x e i n w =
       let f = granted m a c s (length r) act x e in
-      ap (λ (d : Decision). part (imageAfter d m s) i n) e ∙ leaves-beside m (geometryOf m) (f .valid) s i n (length r) act (f .allowed) w
+      ap (λ (d : Decision). part (imageAfter d m s) i n) e ∙ leaves-beside m (geometryOf m) (f .valid) i n s (length r) act (f .allowed) w
 
   pub room-beside : (i n : ℕ) → stepOutcome m a c s r .count ≤ i → part (stepRoom m a c s r) i n ≡ part r i n
   unfolding stepOutcome stepRoom

@@ -1,84 +1,42 @@
 -- Every act keeps a valid image valid, with the same geometry.
 use mathlib.Core.Path.{_≡_, sym, subst, _∙_}
-use mathlib.Core.Bool.{cond}
-use mathlib.Core.List.{List, []}
-use Prim.Native.Nat.{ℕ, _*_, _≤_}
-use native.Mathlib.Omega.{arith}
-use lib.Dec.{eqb}
-use lib.ListN.{length}
+use mathlib.Core.List.{List, [], _∷_}
+use Prim.Native.Nat.{ℕ}
 use Rattle.octets.specs.Put.{put}
-use Rattle.octets.specs.Xor.{_⊻_, length-xor-le}
 use Rattle.folds.specs.Every.{holds}
 use Rattle.geometry.specs.declared.Geometry.{Geometry}
-use Rattle.slots.specs.Kept.{media-empty}
-use Rattle.results.specs.Results.{Sound}
+use Rattle.geometry.specs.Stores.{stored}
+use Rattle.slots.specs.Kept.{kept-empty}
 use Rattle.results.specs.Best.{newest-at}
 use Rattle.image.specs.Shelf.{Shelf, shelf-frame}
 use Rattle.image.specs.Keeps.{shelf-retained, shelf-released, shelf-written}
-use Rattle.meaning.specs.declared.Span.{Span}
 use Rattle.meaning.specs.declared.Act.{Act}
-use Rattle.meaning.specs.declared.Act.the-variants.{Read, Write, XpWrite, XdRead, Couple, Retain, Rebuild, Regenerate, XdWriteRead}
-use Rattle.meaning.specs.Acts.{spanAt, blocksOf, resultOf, gathered, leaves}
-use Rattle.meaning.specs.Stores.{stored-alone}
-use Rattle.meaning.specs.Allowed.{Blocks, Filled, Limited, Sourced, Allowed}
-use Rattle.meaning.specs.Lengths.{span-after-media, length-blocks, length-result, length-gathered}
-use Rattle.demands_one_two.specs.Leaves.{resultIn, stored-result, retain-leaves}
+use Rattle.meaning.specs.Acts.{spanAt, Over, Change, Stays, Comes, Goes, Effect, storesIn, effectOf, leaves}
+use Rattle.meaning.specs.Allowed.{Allowed}
+use Rattle.meaning.specs.Lengths.{span-after-media}
+use Rattle.demands_one_two.specs.Effects.{resultIn, written, changed, Possible, Fine, written-slots, in-form}
+use Rattle.demands_one_two.specs.Fine.{fine}
 
--- what an act retains is sound
-sound-in : (s : List ℕ) (g : Geometry) (kind : ℕ) (x : Span) (bytes : List ℕ) → 1 ≤ kind → kind ≤ 2 → Blocks s g x → Limited g x → length bytes ≡ x .count * g .l
-    → Sound g (resultIn kind x bytes)
-sound-in s g kind x bytes lo hi b m e =
-    record {
-      kind-low = lo;
-      kind-high = hi;
-      drive-in = b .range .drive-in;
-      len-low = b .some;
-      len-high = m;
-      range-in = b .range .range-in;
-      exact = e;
-    }
+module _ (g : Geometry) where
+  pub written-shelf : (m : List ℕ) → Shelf m g → (ws : List Over) → Shelf (written m g ws) g
+  written-shelf m h [] = h
+  written-shelf m h (w ∷ ws) =
+      let at = spanAt g (w .blocks) in
+      written-shelf (put m at (w .bytes)) (shelf-written m g h at (w .bytes) (span-after-media g (w .blocks))) ws
 
-module _ (s : List ℕ) (g : Geometry) (h : Shelf s g) (sent : List ℕ) where
-  regenerated-long : (x : Span) (n int : ℕ) → Blocks s g x → Sourced s g x n int sent → length (blocksOf s g x ⊻ gathered s g sent (x .count) n int) ≡ x .count * g .l
-  regenerated-long x n int b w =
-      let f = shelf-frame s g h in
-      let p = length-blocks s g f x b in
-      let q = length-gathered s g x n int sent f w in
-      length-xor-le (blocksOf s g x) (gathered s g sent (x .count) n int) (omega arith) ∙ p
+module _ (m : List ℕ) (g : Geometry) (h : Shelf m g) where
+  changed-shelf : (ws : List Over) (c : Change) → Possible m g ws c → Shelf (changed (written m g ws) g c) g
+  changed-shelf ws Stays p = written-shelf g m h ws
+  changed-shelf ws (Comes i kind x bytes) (e, sound) =
+      let frame = shelf-frame m g h in
+      shelf-retained (written m g ws) g (written-shelf g m h ws) i (kept-empty m (written m g ws) g (frame .placed) (written-slots g (frame .placed) m ws) ∙ e)
+      (resultIn kind x bytes) sound
+  changed-shelf ws (Goes i x) (e, q) =
+      let w = newest-at m g (x .drive) (x .block .0) i e in
+      subst (λ (vs : List Over). Shelf (changed (written m g vs) g (Goes i x)) g) (sym q) (shelf-released m g h i (w .inside) (holds _ 0 (w .asked)))
 
-  -- what XDWRITE retains, and what REGENERATE
-  pub retained-sound : (x : Span) (mirror : ℕ) → Blocks s g x → Filled g x sent → Limited g x → Sound g (resultIn 1 x (resultOf s g x mirror sent))
-  retained-sound x mirror b e m =
-      sound-in s g 1 x (resultOf s g x mirror sent) (omega arith) (omega arith) b m (length-result s g (shelf-frame s g h) x b mirror sent e)
+  pub effect-shelf : (room : ℕ) (e : Effect) → Fine m g room e → Shelf (stored m (storesIn m g e)) g
+  effect-shelf room e f = subst (λ (t : List ℕ). Shelf t g) (sym (in-form g (shelf-frame m g h .placed) m room e f)) (changed-shelf (e .writes) (e .change) (f .possible))
 
-  pub regenerated-sound : (x : Span) (n int : ℕ) → Blocks s g x → Sourced s g x n int sent → Limited g x
-      → Sound g (resultIn 2 x (blocksOf s g x ⊻ gathered s g sent (x .count) n int))
-  regenerated-sound x n int b w m =
-      sound-in s g 2 x (blocksOf s g x ⊻ gathered s g sent (x .count) n int) (omega arith) (omega arith) b m (regenerated-long x n int b w)
-
-  kept-retain : (x : Span) (i mirror ndisc : ℕ) → Allowed s g sent 0 (Retain x i mirror ndisc) → Shelf (leaves s g sent (Retain x i mirror ndisc)) g
-  kept-retain x i mirror ndisc (b, e, m, v) =
-      let p = shelf-frame s g h .placed in
-      let ys = cond (eqb ndisc 0) sent [] in
-      let media = span-after-media g x in
-      subst (λ (t : List ℕ). Shelf t g) (sym (retain-leaves s g sent x i mirror ndisc p (v .takes)))
-      (shelf-retained (put s (spanAt g x) ys) g (shelf-written s g h (spanAt g x) ys media) i (media-empty s g (spanAt g x) ys p media ∙ v .takes)
-      (resultIn 1 x (resultOf s g x mirror sent)) (retained-sound x mirror b e m))
-
-  pub leaves-shelf : (room : ℕ) (act : Act) → Allowed s g sent room act → Shelf (leaves s g sent act) g
-  leaves-shelf room (Read x) a = h
-  leaves-shelf room (Write x) a = shelf-written s g h (spanAt g x) sent (span-after-media g x)
-  leaves-shelf room (XpWrite x) a = shelf-written s g h (spanAt g x) (blocksOf s g x ⊻ sent) (span-after-media g x)
-  leaves-shelf room (XdRead x i) a =
-      let w = newest-at s g (x .drive) (x .block .0) i (a .0 .answers) in
-      shelf-released s g h i (w .inside) (holds _ 0 (w .asked))
-  leaves-shelf room (Couple x y mirror) a =
-      shelf-written (put s (spanAt g x) sent) g (shelf-written s g h (spanAt g x) sent (span-after-media g x)) (spanAt g y) _ (span-after-media g y)
-  leaves-shelf room (Retain x i mirror ndisc) a = kept-retain x i mirror ndisc a
-  leaves-shelf room (Rebuild x n int) a = shelf-written s g h (spanAt g x) (gathered s g sent (x .count) n int) (span-after-media g x)
-  leaves-shelf room (Regenerate x n int i) a =
-      let bytes = blocksOf s g x ⊻ gathered s g sent (x .count) n int in
-      subst (λ (t : List ℕ). Shelf t g) (sym (stored-result s g i 2 x bytes (a .3 .takes)))
-      (shelf-retained s g h i (a .3 .takes) (resultIn 2 x bytes) (regenerated-sound x n int (a .0) (a .1) (a .2)))
-  leaves-shelf room (XdWriteRead x disable) a =
-      subst (λ (t : List ℕ). Shelf t g) (sym (stored-alone s g x disable sent)) (shelf-written s g h (spanAt g x) (cond (eqb disable 0) sent []) (span-after-media g x))
+  pub leaves-shelf : (s : List ℕ) (room : ℕ) (act : Act) → Allowed m g s room act → Shelf (leaves m g s act) g
+  leaves-shelf s room act a = effect-shelf room (effectOf m g s act) (fine m g (shelf-frame m g h) s room act a)

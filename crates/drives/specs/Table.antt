@@ -4,7 +4,6 @@ use mathlib.Core.List.{List, [], _∷_}
 use mathlib.Core.Bool.{Bool, not}
 use lib.ListN.{getD}
 use lib.Dec.{leb, eqb}
-use Rattle.octets.specs.Put.{put}
 use Rattle.octets.specs.Number.{be}
 use Rattle.folds.specs.declared.Found.{Found}
 use Rattle.folds.specs.Every.{every}
@@ -12,6 +11,7 @@ use Rattle.folds.specs.All.{allBelow}
 use Rattle.folds.specs.Least.{leastBelow}
 use Rattle.geometry.specs.declared.Geometry.{Geometry}
 use Rattle.geometry.specs.Header.{entryAt}
+use Rattle.geometry.specs.Stores.{Store, store, Table, stored}
 
 -- "per drive 4 bytes, state .. and a 3-byte address"
 abbrev pub stateOf : List ℕ → Geometry → ℕ → ℕ
@@ -43,5 +43,8 @@ unfoldable pub driveOf : List ℕ → Geometry → ℕ → Found
 driveOf m g a = leastBelow (g .d) (λ i. eqb (addressOf m g i) a)
 
 -- "Marking writes the state byte alone"
+abbrev pub marks : Geometry → ℕ → ℕ → List Store
+marks g i state = store Table (entryAt g i) (state ∷ []) ∷ []
+
 unfoldable pub marked : List ℕ → Geometry → ℕ → ℕ → List ℕ
-marked m g i state = put m (entryAt g i) (state ∷ [])
+marked m g i state = stored m (marks g i state)

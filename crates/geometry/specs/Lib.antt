@@ -4,3 +4,4 @@ pub mod Places
 pub mod Outside
 pub mod Written
 pub mod Kept
+pub mod Stores

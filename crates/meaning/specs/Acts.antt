@@ -1,40 +1,26 @@
 -- What a command that passed every check does to the image, and what it hands to the receive room (01, "Commands"; 02, A1). Every
--- operand is read from the image before the command; stores are done in the order in which they stand.
+-- operand is read from the image before the command. Each statement of the code that acts is one of these stores, or a piece of one,
+-- and they are done in the order in which they stand, pieces ascending; what is handed out goes before all of them.
 use Prim.Native.Nat.{ℕ, zero, suc, _+_, _*_}
-use mathlib.Core.List.{List, [], _∷_, _++_}
+use mathlib.Core.List.{List, [], _∷_, _++_, map}
 use mathlib.Core.Bool.{Bool, cond}
 use lib.Dec.{eqb}
 use Rattle.octets.specs.Part.{part}
-use Rattle.octets.specs.Put.{put}
 use Rattle.octets.specs.Xor.{_⊻_}
 use Rattle.octets.specs.Operands.{xorAll}
 use Rattle.folds.specs.Least.{index}
 use Rattle.geometry.specs.declared.Geometry.{Geometry}
 use Rattle.geometry.specs.Header.{slotAt, dataAt, place, blocksAt}
+use Rattle.geometry.specs.Stores.{Store, store, Slots, Media, stored}
 use Rattle.drives.specs.Table.{driveOf}
 use Rattle.slots.specs.Record.{bytesOf}
 use Rattle.slots.specs.Slots.{usedCount}
-use Rattle.slots.specs.Change.{entry, released}
+use Rattle.slots.specs.Change.{entry, goes}
 use Rattle.command.specs.declared.Source.{Source}
 use Rattle.command.specs.Command.{sourceOf}
 use Rattle.meaning.specs.declared.Span.{Span}
 use Rattle.meaning.specs.declared.Act.{Act}
 use Rattle.meaning.specs.declared.Act.the-variants.{Read, Write, XpWrite, XdRead, Couple, Retain, Rebuild, Regenerate, XdWriteRead}
-
--- ---- stores
-
--- bytes written over an image at a place
-pub record Store : Type 0 where
-  pub at : ℕ
-  pub bytes : List ℕ
-
-abbrev pub store : ℕ → List ℕ → Store
-store at bytes = record { at = at; bytes = bytes }
-
--- one after the other
-abbrev pub stored : List ℕ → List Store → List ℕ
-stored m [] = m
-stored m (w ∷ ws) = stored (put m (w .at) (w .bytes)) ws
 
 -- ---- blocks
 
@@ -44,6 +30,50 @@ spanAt g x = place g (x .drive) (x .block .0)
 -- the bytes of a span
 abbrev pub blocksOf : List ℕ → Geometry → Span → List ℕ
 blocksOf m g x = blocksAt m g (x .drive) (x .block .0) (x .count)
+
+-- ---- what an act comes to
+
+-- blocks, and the bytes that are written over them
+pub record Over : Type 0 where
+  pub blocks : Span
+  pub bytes : List ℕ
+
+abbrev pub over : Span → List ℕ → Over
+over x bytes = record { blocks = x; bytes = bytes }
+
+-- the retained results stay; slot i takes one, of a kind and of the blocks x; or the one that slot i has, of the blocks x, goes
+pub data Change : Type 0 where
+  Stays : Change
+  Comes : ℕ → ℕ → Span → List ℕ → Change
+  Goes : ℕ → Span → Change
+
+-- what goes to the receive room, the blocks written, in order, and what becomes of the results
+pub record Effect : Type 0 where
+  pub hands : List ℕ
+  pub writes : List Over
+  pub change : Change
+
+abbrev pub effect : List ℕ → List Over → Change → Effect
+effect hands writes change = record { hands = hands; writes = writes; change = change }
+
+-- "its bytes fill the front of the slot, the rest stays"
+abbrev pub dataStores : Geometry → Change → List Store
+dataStores g Stays = []
+dataStores g (Comes i kind x bytes) = store Slots (dataAt g i) bytes ∷ []
+dataStores g (Goes i x) = []
+
+abbrev pub blockStore : Geometry → Over → Store
+blockStore g w = store Media (spanAt g (w .blocks)) (w .bytes)
+
+-- "A new result takes .. rank k+1"
+abbrev pub recordStores : List ℕ → Geometry → Change → List Store
+recordStores m g Stays = []
+recordStores m g (Comes i kind x bytes) = store Slots (slotAt g i) (bytesOf (entry (usedCount m g + 1) kind (x .drive) (x .block .0) (x .count))) ∷ []
+recordStores m g (Goes i x) = goes g i m
+
+-- where the result goes, then the data's own blocks, then the records; a secondary's blocks stand before the data's
+abbrev pub storesIn : List ℕ → Geometry → Effect → List Store
+storesIn m g e = dataStores g (e .change) ++ map (blockStore g) (e .writes) ++ recordStores m g (e .change)
 
 -- ---- XDWRITE
 
@@ -61,18 +91,9 @@ laid adds there bytes = cond adds (there ⊻ bytes) bytes
 abbrev pub passedOn : List ℕ → Geometry → Span → Span → ℕ → List ℕ → List ℕ
 passedOn m g x y mirror s = laid (eqb mirror 0) (blocksOf m g y) (resultOf m g x mirror s)
 
--- "NDisc 0 writes the data"; then the secondary
-abbrev pub coupled : List ℕ → Geometry → Span → Span → ℕ → List ℕ → List Store
-coupled m g x y mirror s = store (spanAt g x) s ∷ store (spanAt g y) (passedOn m g x y mirror s) ∷ []
-
--- a result in slot i: its bytes, then its record, as the newest
-abbrev pub slotStores : List ℕ → Geometry → ℕ → ℕ → Span → List ℕ → List Store
-slotStores m g i kind x bytes =
-    store (dataAt g i) bytes ∷ store (slotAt g i) (bytesOf (entry (usedCount m g + 1) kind (x .drive) (x .block .0) (x .count))) ∷ []
-
 -- with Sec Ctl 11 the data is written where NDisc is 0, and by 50h and 53h where DISABLE WRITE is 0
-abbrev pub dataStores : Geometry → Span → ℕ → List ℕ → List Store
-dataStores g x ndisc s = cond (eqb ndisc 0) (store (spanAt g x) s ∷ []) []
+abbrev pub dataOver : Span → ℕ → List ℕ → List Over
+dataOver x ndisc s = cond (eqb ndisc 0) (over x s ∷ []) []
 
 -- ---- REBUILD and REGENERATE
 
@@ -105,34 +126,30 @@ gathered m g s count n int = xorAll (sourcesFrom m g s count 0 n ++ intData g s 
 
 -- ---- every command
 
--- the stores of a command, in order; XDREAD's are those of a result that goes
-abbrev pub leaves : List ℕ → Geometry → List ℕ → Act → List ℕ
-leaves m g s (Read x) = m
-leaves m g s (Write x) = stored m (store (spanAt g x) s ∷ [])
+abbrev pub effectOf : List ℕ → Geometry → List ℕ → Act → Effect
+effectOf m g s (Read x) = effect (blocksOf m g x) [] Stays
+effectOf m g s (Write x) = effect [] (over x s ∷ []) Stays
 -- "XPWRITE: medium becomes old XOR data."
-leaves m g s (XpWrite x) = stored m (store (spanAt g x) (blocksOf m g x ⊻ s) ∷ [])
--- "it is no longer retained"
-leaves m g s (XdRead x i) = released m g i
-leaves m g s (Couple x y mirror) = stored m (coupled m g x y mirror s)
+effectOf m g s (XpWrite x) = effect [] (over x (blocksOf m g x ⊻ s) ∷ []) Stays
+-- "Its bytes go to the receive room's front", and "it is no longer retained"
+effectOf m g s (XdRead x i) = effect (part m (dataAt g i) (x .count * g .l)) [] (Goes i x)
+-- to the secondary, and then "NDisc 0 writes the data"
+effectOf m g s (Couple x y mirror) = effect [] (over y (passedOn m g x y mirror s) ∷ over x s ∷ []) Stays
 -- "Sec Ctl 11: the result is retained", as kind 1
-leaves m g s (Retain x i mirror ndisc) = stored m (dataStores g x ndisc s ++ slotStores m g i 1 x (resultOf m g x mirror s))
+effectOf m g s (Retain x i mirror ndisc) = effect [] (dataOver x ndisc s) (Comes i 1 x (resultOf m g x mirror s))
 -- "REBUILD writes the XOR to the target"
-leaves m g s (Rebuild x n int) = stored m (store (spanAt g x) (gathered m g s (x .count) n int) ∷ [])
+effectOf m g s (Rebuild x n int) = effect [] (over x (gathered m g s (x .count) n int) ∷ []) Stays
 -- "REGENERATE adds the target's own blocks and retains the XOR."
-leaves m g s (Regenerate x n int i) = stored m (slotStores m g i 2 x (blocksOf m g x ⊻ gathered m g s (x .count) n int))
--- A1: 53h "takes no slot"
-leaves m g s (XdWriteRead x disable) = stored m (dataStores g x disable s)
+effectOf m g s (Regenerate x n int i) = effect [] [] (Comes i 2 x (blocksOf m g x ⊻ gathered m g s (x .count) n int))
+-- A1: 53h "puts the XOR in the receive room", of the data and the old blocks, and "takes no slot"
+effectOf m g s (XdWriteRead x disable) = effect (s ⊻ blocksOf m g x) (dataOver x disable s) Stays
 
--- what goes to the receive room's front
+abbrev pub storesOf : List ℕ → Geometry → List ℕ → Act → List Store
+storesOf m g s act = storesIn m g (effectOf m g s act)
+
+-- what is left of the image, and what goes to the receive room's front
+abbrev pub leaves : List ℕ → Geometry → List ℕ → Act → List ℕ
+leaves m g s act = stored m (storesOf m g s act)
+
 abbrev pub hands : List ℕ → Geometry → List ℕ → Act → List ℕ
-hands m g s (Read x) = blocksOf m g x
-hands m g s (Write x) = []
-hands m g s (XpWrite x) = []
--- "Its bytes go to the receive room's front"
-hands m g s (XdRead x i) = part m (dataAt g i) (x .count * g .l)
-hands m g s (Couple x y mirror) = []
-hands m g s (Retain x i mirror ndisc) = []
-hands m g s (Rebuild x n int) = []
-hands m g s (Regenerate x n int i) = []
--- A1: 53h "puts the XOR in the receive room", of the data and the old blocks
-hands m g s (XdWriteRead x disable) = s ⊻ blocksOf m g x
+hands m g s act = effectOf m g s act .hands

@@ -1,7 +1,7 @@
 -- All results of a drive go: the slots stay right, the results of the other drives stay in order, and no byte outside the slots' records
 -- changes.
 --
-use Prim.Native.Nat.{ℕ, zero, suc, _≤_, _<_}
+use Prim.Native.Nat.{ℕ, suc, _<_}
 use native.Mathlib.Nat.{not-suc-le-zero}
 use native.Mathlib.Omega.{arith}
 use mathlib.Core.Bool.{Bool, true, false, not, true≢false}
@@ -15,12 +15,13 @@ use Rattle.octets.specs.Part.{part}
 use Rattle.folds.specs.Cases.{on-test, last-or-below}
 use Rattle.folds.specs.Every.{holds, every-of, fails}
 use Rattle.geometry.specs.declared.Geometry.{Geometry}
+use Rattle.geometry.specs.Stores.{Store, stored, in-turn-keeps}
 use Rattle.geometry.specs.Frame.{Framed, framed-same}
 use Rattle.geometry.specs.Outside.{Outside}
 use Rattle.slots.specs.Record.{slotOf}
 use Rattle.slots.specs.Slots.{slotsOk}
 use Rattle.slots.specs.Facts.{right}
-use Rattle.slots.specs.Change.{released, ofDrive, dropOne, droppedTo, dropped}
+use Rattle.slots.specs.Change.{released, ofDrive, drops, droppedTo, dropped}
 use Rattle.results.specs.Lists.{keeping, keep-all, keep-keep}
 use Rattle.results.specs.Members.{ages-in}
 use Rattle.results.specs.Results.{Result, resultAt, byAge, results}
@@ -70,15 +71,10 @@ module _ (s : List ℕ) (g : Geometry) (f : Framed s g) (drive n : ℕ) (t : Lis
 -- what each release keeps, all of them keep
 drop-keeps : (s : List ℕ) (g : Geometry) (drive : ℕ) (P : List ℕ → Type 0) → ((t : List ℕ) (n : ℕ) → n < g .s → P t → P (released t g n)) → P s
     → P (dropped s g drive)
-unfolding dropped droppedTo dropOne
-drop-keeps s g drive P keep start = to (g .s) (omega arith)
-  where
-    to : (n : ℕ) → n ≤ g .s → P (droppedTo g drive n s)
-    to zero l = start
-    to (suc n) l =
-        let t = droppedTo g drive n s in
-        let h = to n (omega arith) in
-        on-test P (ofDrive drive (slotOf t g n)) (λ e. keep t n l h) (λ e. h)
+unfolding dropped droppedTo released
+drop-keeps s g drive P keep =
+    in-turn-keeps (drops g drive) s (λ n t. P t) (g .s)
+    (λ n t l h. on-test (λ (ws : List Store). P (stored t ws)) (ofDrive drive (slotOf t g n)) (λ e. keep t n l h) (λ e. h))
 
 pub length-dropped : (s : List ℕ) (g : Geometry) (drive : ℕ) → length (dropped s g drive) ≡ length s
 length-dropped s g drive = drop-keeps s g drive (λ (t : List ℕ). length t ≡ length s) (λ t n l e. length-released t g n ∙ e) refl
@@ -87,17 +83,12 @@ pub drop-part : (s : List ℕ) (g : Geometry) (drive a m : ℕ) → Outside g a 
 drop-part s g drive a m o = drop-keeps s g drive (λ (t : List ℕ). part t a m ≡ part s a m) (λ t n l e. release-part t g n a m l o ∙ e) refl
 
 module _ (s : List ℕ) (g : Geometry) (f : Framed s g) (ok : slotsOk s g ≡ true) (drive : ℕ) where
-  emptied : (n : ℕ) → n ≤ g .s → Emptied s g drive n (droppedTo g drive n s)
-  unfolding droppedTo dropOne
-  emptied zero l = record { as-long = refl; ok = ok; none = λ j lj. absurd (not-suc-le-zero lj); others = refl }
-  emptied (suc n) l =
-      let t = droppedTo g drive n s in
-      let h = emptied n (omega arith) in
-      on-test (Emptied s g drive (suc n)) (ofDrive drive (slotOf t g n)) (emptied-hit s g f drive n t l h) (emptied-miss s g f drive n t l h)
-
   all-emptied : Emptied s g drive (g .s) (dropped s g drive)
-  unfolding dropped
-  all-emptied = emptied (g .s) (omega arith)
+  unfolding dropped droppedTo released
+  all-emptied =
+      in-turn-keeps (drops g drive) s (Emptied s g drive) (g .s)
+      (λ n t l h. on-test (λ (ws : List Store). Emptied s g drive (suc n) (stored t ws)) (ofDrive drive (slotOf t g n)) (emptied-hit s g f drive n t l h) (emptied-miss s g f drive n t l h))
+      (record { as-long = refl; ok = ok; none = λ j lj. absurd (not-suc-le-zero lj); others = refl })
 
   pub drop-ok : slotsOk (dropped s g drive) g ≡ true
   drop-ok = all-emptied .ok

@@ -15,11 +15,12 @@ use Rattle.octets.specs.Number.{toBe, length-toBe}
 use Rattle.folds.specs.Cases.{either, on-test, last-or-below}
 use Rattle.geometry.specs.declared.Geometry.{Geometry}
 use Rattle.geometry.specs.Header.{slotAt}
+use Rattle.geometry.specs.Stores.{Store, stored, in-turn, in-turn-keeps}
 use Rattle.geometry.specs.Frame.{Framed}
 use Rattle.geometry.specs.Places.{slot-room}
 use Rattle.geometry.specs.Outside.{Outside}
 use Rattle.slots.specs.Record.{slotOf}
-use Rattle.slots.specs.Change.{lowerOne, lowered}
+use Rattle.slots.specs.Change.{fall, lowerOne, lowered}
 use Rattle.slots.specs.Stored.{slot-ranked, slot-other}
 use Rattle.results.specs.Lower.{lowerRank, lowerSlot}
 
@@ -29,7 +30,7 @@ module _ (g : Geometry) (rank : ℕ) where
     -- its rank is written anew, or nothing is
     lower-is : (P : List ℕ → Type 0) → ((v : ℕ) → P (put s (slotAt g i) (toBe 4 v))) → P s → P (lowerOne g rank i s)
     unfolding lowerOne
-    lower-is P hit miss = on-test P (ltb rank (slotOf s g i .rank)) (λ t. hit _) (λ t. miss)
+    lower-is P hit miss = on-test (λ (ws : List Store). P (stored s ws)) (ltb rank (slotOf s g i .rank)) (λ t. hit _) (λ t. miss)
 
     length-lower : length (lowerOne g rank i s) ≡ length s
     length-lower = lower-is (λ (t : List ℕ). length t ≡ length s) (λ v. length-put s _ _) refl
@@ -51,30 +52,29 @@ module _ (g : Geometry) (rank : ℕ) where
   -- ---- in the first n slots
   module _ (s : List ℕ) where
     pub length-lowered : (n : ℕ) → length (lowered g rank n s) ≡ length s
-    unfolding lowered
-    length-lowered zero = refl
-    length-lowered (suc n) = length-lower (lowered g rank n s) n ∙ length-lowered n
+    unfolding lowered lowerOne
+    length-lowered n = in-turn-keeps (fall g rank) s (λ i t. length t ≡ length s) n (λ i t l e. length-lower t i ∙ e) refl
 
     pub lowered-part : (n a m : ℕ) → n ≤ g .s → Outside g a m → part (lowered g rank n s) a m ≡ part s a m
-    unfolding lowered
-    lowered-part zero a m l o = refl
-    lowered-part (suc n) a m l o = lower-part (lowered g rank n s) n a m (o n l) ∙ lowered-part n a m (omega arith) o
+    unfolding lowered lowerOne
+    lowered-part n a m l o = in-turn-keeps (fall g rank) s (λ i t. part t a m ≡ part s a m) n (λ i t li e. lower-part t i a m (o i (omega arith)) ∙ e) refl
 
     -- not reached yet
     lowered-above : (n j : ℕ) → n ≤ j → slotOf (lowered g rank n s) g j ≡ slotOf s g j
-    unfolding lowered
-    lowered-above zero j l = refl
-    lowered-above (suc n) j l = lower-other (lowered g rank n s) n j (λ e. omega arith) ∙ lowered-above n j (omega arith)
+    unfolding lowered lowerOne
+    lowered-above n j =
+        in-turn-keeps (fall g rank) s (λ i t. i ≤ j → slotOf t g j ≡ slotOf s g j) n (λ i t l e h. lower-other t i j (λ q. omega arith) ∙ e (omega arith)) (λ h. refl)
 
     -- passed
     pub lowered-below : Framed s g → ((j : ℕ) → j < g .s → slotOf s g j .rank < 2 ^ 32) → (n j : ℕ) → n ≤ g .s → j < n
         → slotOf (lowered g rank n s) g j ≡ lowerSlot rank (slotOf s g j)
-    unfolding lowered
+    unfolding lowered lowerOne
     lowered-below f small zero j h l = absurd (not-suc-le-zero l)
     lowered-below f small (suc n) j h l =
         let t = lowered g rank n s in
         let q : slotOf t g n ≡ slotOf s g n = lowered-above n n (omega arith) in
-        ⊎-elim
+        ap (λ (w : List ℕ). slotOf w g j) (in-turn (fall g rank) s n)
+        ∙ ⊎-elim
         (λ e. rw e (lower-slot t n (omega (arith, slot-room s g n f h, length-lowered n)) (rw q (small n h)) ∙ ap (lowerSlot rank) q))
         (λ lt. lower-other t n j (λ e. omega arith) ∙ lowered-below f small n j (omega arith) lt)
         (last-or-below l)

@@ -23,7 +23,7 @@ use Rattle.slots.specs.declared.Slot.{Slot}
 use Rattle.slots.specs.Record.{slotOf, isUsed, zeroSlot}
 use Rattle.slots.specs.Slots.{usedCount, slotsOk}
 use Rattle.slots.specs.Facts.{empty-is, right, right-ok}
-use Rattle.slots.specs.Change.{released}
+use Rattle.slots.specs.Change.{lowered, released}
 use Rattle.slots.specs.Stored.{slot-zeroed, slot-other}
 use Rattle.slots.specs.Ranks.{used-at}
 use Rattle.results.specs.Lists.{map-keeping}
@@ -35,11 +35,11 @@ use Rattle.results.specs.Results.{resultAt, byAge, results, result-same}
 use Rattle.results.specs.Lowered.{length-lowered, lowered-part, lowered-below}
 
 pub length-released : (s : List ℕ) (g : Geometry) (x : ℕ) → length (released s g x) ≡ length s
-unfolding released
+unfolding released lowered
 length-released s g x = length-lowered g _ _ (g .s) ∙ length-put s _ _
 
 pub release-part : (s : List ℕ) (g : Geometry) (x a n : ℕ) → x < g .s → Outside g a n → part (released s g x) a n ≡ part s a n
-unfolding released
+unfolding released lowered
 release-part s g x a n l o =
     lowered-part g _ _ (g .s) a n (omega arith) o ∙ part-put-apart s (slotAt g x) (replicate 16 0) a n (o x l)
 
@@ -70,7 +70,7 @@ module _ (s : List ℕ) (g : Geometry) (f : Framed s g) (ok : slotsOk s g ≡ tr
         (same j x)
 
     lowered-all : (j : ℕ) → j < g .s → slotOf (released s g x) g j ≡ lowerSlot (slotOf s g x .rank) (slotOf zeroed g j)
-    unfolding released
+    unfolding released lowered
     lowered-all j lj =
         lowered-below g (slotOf s g x .rank) zeroed (framed-same s zeroed g f (length-put s _ _)) zeroed-small (g .s) j (omega arith) lj
 

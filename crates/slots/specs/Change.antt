@@ -1,5 +1,5 @@
 -- A result comes, goes, and all of a drive's go (01, "The image" and "Commands").
-use Prim.Native.Nat.{ℕ, zero, suc, _+_, _-_}
+use Prim.Native.Nat.{ℕ, _+_, _-_}
 use mathlib.Core.List.{List, [], _∷_, _++_}
 use mathlib.Core.Bool.{Bool, cond}
 use lib.Dec.{ltb, eqb}
@@ -11,6 +11,7 @@ use Rattle.folds.specs.declared.Found.the-variants.{At, Nothing}
 use Rattle.folds.specs.Every.{every}
 use Rattle.geometry.specs.declared.Geometry.{Geometry}
 use Rattle.geometry.specs.Header.{slotAt}
+use Rattle.geometry.specs.Stores.{Store, store, Slots, stored, andThen, inTurn}
 use Rattle.slots.specs.declared.Slot.{Slot}
 use Rattle.slots.specs.Record.{slotOf, bytesOf, isUsed}
 use Rattle.slots.specs.Slots.{usedCount}
@@ -29,28 +30,37 @@ entered Nothing m g e bytes = m
 unfoldable pub retained : List ℕ → Geometry → ℕ → ℕ → ℕ → ℕ → List ℕ → List ℕ
 retained m g kind drive block n bytes = entered (emptySlot m g) m g (entry (usedCount m g + 1) kind drive block n) bytes
 
--- "higher ranks fall by one": in slot i, and in the first n slots
-unfoldable pub lowerOne : Geometry → ℕ → ℕ → List ℕ → List ℕ
-lowerOne g rank i m = cond (ltb rank (slotOf m g i .rank)) (put m (slotAt g i) (toBe 4 (slotOf m g i .rank - 1))) m
-
-unfoldable pub lowered : Geometry → ℕ → ℕ → List ℕ → List ℕ
-lowered g rank zero m = m
-lowered g rank (suc n) m = lowerOne g rank n (lowered g rank n m)
+-- "higher ranks fall by one": slot i's, where it is above the rank
+abbrev pub fall : Geometry → ℕ → ℕ → List ℕ → List Store
+fall g rank i m = cond (ltb rank (slotOf m g i .rank)) (store Slots (slotAt g i) (toBe 4 (slotOf m g i .rank - 1)) ∷ []) []
 
 -- "When a result goes, its record is zeroed, its data left, and higher ranks fall by one."
-unfoldable pub released : List ℕ → Geometry → ℕ → List ℕ
-released m g i = lowered g (slotOf m g i .rank) (g .s) (put m (slotAt g i) (replicate 16 0))
+abbrev pub goes : Geometry → ℕ → List ℕ → List Store
+goes g i m = andThen (inTurn (fall g (slotOf m g i .rank)) (g .s)) m (store Slots (slotAt g i) (replicate 16 0) ∷ [])
 
--- "Hard reset drops all results of its drive": slot i's, and those of the first n slots
+-- "Hard reset drops all results of its drive": slot i's
 abbrev pub ofDrive : ℕ → Slot → Bool
 ofDrive drive e = every (isUsed e ∷ eqb (e .drive) drive ∷ [])
 
+abbrev pub drops : Geometry → ℕ → ℕ → List ℕ → List Store
+drops g drive i m = cond (ofDrive drive (slotOf m g i)) (goes g i m) []
+
+-- ---- what they leave: in slot i, and in the first n slots
+
+unfoldable pub lowerOne : Geometry → ℕ → ℕ → List ℕ → List ℕ
+lowerOne g rank i m = stored m (fall g rank i m)
+
+unfoldable pub lowered : Geometry → ℕ → ℕ → List ℕ → List ℕ
+lowered g rank n m = stored m (inTurn (fall g rank) n m)
+
+unfoldable pub released : List ℕ → Geometry → ℕ → List ℕ
+released m g i = stored m (goes g i m)
+
 unfoldable pub dropOne : Geometry → ℕ → ℕ → List ℕ → List ℕ
-dropOne g drive i m = cond (ofDrive drive (slotOf m g i)) (released m g i) m
+dropOne g drive i m = stored m (drops g drive i m)
 
 unfoldable pub droppedTo : Geometry → ℕ → ℕ → List ℕ → List ℕ
-droppedTo g drive zero m = m
-droppedTo g drive (suc n) m = dropOne g drive n (droppedTo g drive n m)
+droppedTo g drive n m = stored m (inTurn (drops g drive) n m)
 
 unfoldable pub dropped : List ℕ → Geometry → ℕ → List ℕ
 dropped m g drive = droppedTo g drive (g .s) m

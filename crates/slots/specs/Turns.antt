@@ -15,13 +15,14 @@ use Rattle.folds.specs.declared.Found.the-variants.{At, Nothing}
 use Rattle.folds.specs.Every.{every, every-joined}
 use Rattle.geometry.specs.declared.Geometry.{Geometry}
 use Rattle.geometry.specs.Header.{slotAt}
+use Rattle.geometry.specs.Stores.{in-turn}
 use Rattle.slots.specs.declared.Slot.{Slot}
 use Rattle.slots.specs.declared.Best.{Best}
 use Rattle.slots.specs.Record.{slotOf, bytesOf, isUsed}
 use Rattle.slots.specs.RecordLaws.{length-bytes, rank-at}
 use Rattle.slots.specs.Slots.{usedCount}
 use Rattle.slots.specs.Find.{emptySlot, wanted, better, bestOf, newestOf}
-use Rattle.slots.specs.Change.{entry, retained, lowerOne, lowered, released, dropOne, droppedTo, dropped}
+use Rattle.slots.specs.Change.{entry, retained, fall, drops, lowerOne, lowered, released, dropOne, droppedTo, dropped}
 
 -- ---- the newest
 
@@ -85,21 +86,21 @@ unfolding lowered
 lowered-none g rank s = refl
 
 pub lowered-more : (g : Geometry) (rank n : ℕ) (s s₀ : List ℕ) → s ≡ lowered g rank n s₀ → lowerOne g rank n s ≡ lowered g rank (n + 1) s₀
-unfolding lowered
-lowered-more g rank n s s₀ e = rw (add-one n) (ap (lowerOne g rank n) e)
+unfolding lowered lowerOne
+lowered-more g rank n s s₀ e = rw (add-one n) (ap (lowerOne g rank n) e ∙ sym (in-turn (fall g rank) s₀ n))
 
 pub lowered-done : (g : Geometry) (rank i : ℕ) (s s₀ : List ℕ) → s ≡ lowered g rank i s₀ → i ≤ g .s → g .s ≤ i → s ≡ lowered g rank (g .s) s₀
 lowered-done g rank i s s₀ e h l = let q : i ≡ g .s = omega arith in e ∙ ap (λ (k : ℕ). lowered g rank k s₀) q
 
 pub released-by : (s : List ℕ) (g : Geometry) (i at rank : ℕ) (s₁ s₂ : List ℕ) → at ≡ slotAt g i → rank ≡ be 4 s at → s₁ ≡ put s at (replicate 16 0)
     → s₂ ≡ lowered g rank (g .s) s₁ → s₂ ≡ released s g i
-unfolding released
+unfolding released lowered
 released-by s g i at rank s₁ s₂ a k p q = q ∙ rw (p, rank-at s g i at rank a k, a)
 
 -- ---- all of a drive's go
 
 pub drop-hit : (g : Geometry) (drive i : ℕ) (s : List ℕ) (r : Slot) → r ≡ slotOf s g i → (isUsed r && eqb (r .drive) drive) ≡ true → released s g i ≡ dropOne g drive i s
-unfolding dropOne
+unfolding dropOne released
 drop-hit g drive i s r e t = rw (sym e, sym (every-joined (isUsed r) (eqb (r .drive) drive ∷ [])) ∙ t)
 
 pub drop-miss : (g : Geometry) (drive i : ℕ) (s : List ℕ) (r : Slot) → r ≡ slotOf s g i → (isUsed r && eqb (r .drive) drive) ≡ false → s ≡ dropOne g drive i s
@@ -111,8 +112,8 @@ unfolding droppedTo
 dropped-none g drive s = refl
 
 pub dropped-more : (g : Geometry) (drive n : ℕ) (s s₀ : List ℕ) → s ≡ droppedTo g drive n s₀ → dropOne g drive n s ≡ droppedTo g drive (n + 1) s₀
-unfolding droppedTo
-dropped-more g drive n s s₀ e = rw (add-one n) (ap (dropOne g drive n) e)
+unfolding droppedTo dropOne
+dropped-more g drive n s s₀ e = rw (add-one n) (ap (dropOne g drive n) e ∙ sym (in-turn (drops g drive) s₀ n))
 
 pub dropped-done : (g : Geometry) (drive i : ℕ) (s s₀ : List ℕ) → s ≡ droppedTo g drive i s₀ → i ≤ g .s → g .s ≤ i → s ≡ dropped s₀ g drive
 unfolding dropped

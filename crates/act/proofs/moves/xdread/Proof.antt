@@ -4,6 +4,7 @@ use Prim.Native.Nat.{ℕ, _+_}
 use native.Mathlib.Omega.{arith}
 use borrow.Author.Needs.{needs}
 use Rattle.geometry.specs.Places.{data-in}
+use Rattle.slots.specs.Change.{released}
 use Rattle.act.specs.Moves.{handed-by}
 use Rattle.act.proofs.moves.xdread.Statement.{statement}
 use Rattle.act.proofs.moves.xdread.Tie as tie
@@ -16,6 +17,7 @@ hand-over-requires c κs =
     (omega (arith, data-in (args .image .now) (args .g) (args .i) (args .x .count) (pre .0) (pre .1 .0 .slot-in) (pre .1 .0 .limited), slot-at .ensures .0), pre .1 .1)
 
 returns : tie.Need-returns
+unfolding released
 returns c =
     let slot-at = c .before .before .before .before .before .before .before .before .before .before .slot-at in
     let hand-over = c .before .before .before .before .before .before .hand-over in

@@ -26,7 +26,7 @@ write-data-requires c κs =
     let args = c .before .before .before .before .before .before .before .before .before .before .args in
     let pre = c .before .before .before .before .before .before .before .before .before .before .pre in
     let place = c .before .before .before .before .before .before .place in
-    (omega (arith, span-in (args .image .now) (args .g) (args .x) (pre .0) (pre .1 .0 .range), place .ensures .0, pre .1 .1), omega arith)
+    omega (arith, span-in (args .image .now) (args .g) (args .x) (pre .0) (pre .1 .0 .range), place .ensures .0, pre .1 .1)
 
 returns : tie.Need-returns
 returns c =
