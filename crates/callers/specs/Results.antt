@@ -27,7 +27,7 @@ use Rattle.meaning.specs.declared.Act.the-variants.{Retain, Regenerate}
 use Rattle.meaning.specs.Acts.{stored, resultOf, slotStores, dataStores, gathered}
 use Rattle.meaning.specs.Allowed.{Blocks, Filled, Roomy, Limited, Held, Free, empty-free, Sourced}
 use Rattle.grants.specs.Each.{held-at}
-use Rattle.demands_one_two.specs.Leaves.{resultIn}
+use Rattle.demands_one_two.specs.Effects.{resultIn}
 use Rattle.demands_one_two.specs.Retained.{results-after}
 use Rattle.callers.specs.Bytes.{xdreadCdb, xdwriteTenCdb, xdwriteCdb, regenerateCdb}
 use Rattle.callers.specs.Lists.{Headed}

@@ -28,7 +28,7 @@ use Rattle.meaning.specs.declared.Decision.the-variants.{Go}
 use Rattle.meaning.specs.Step.{decided, stepImage, resetImage}
 use Rattle.meaning.specs.Calls.{Call, command, reset, marking, afterCall, afterCalls}
 use Rattle.grants.specs.Granted.{allowed-at}
-use Rattle.demands_one_two.specs.Leaves.{resultIn}
+use Rattle.demands_one_two.specs.Effects.{resultIn}
 use Rattle.demands_one_two.specs.Step.{step-shelf}
 use Rattle.demands_one_two.specs.Calls.{reset-shelf, reset-front, mark-shelf, mark-address}
 use Rattle.demands_one_two.specs.Retained.{newest-handed}

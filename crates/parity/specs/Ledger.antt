@@ -22,7 +22,7 @@ use Rattle.meaning.specs.Acts.{blocksOf, resultOf, gathered}
 use Rattle.meaning.specs.Checks.{calls}
 use Rattle.meaning.specs.Step.{decided, untouched, target}
 use Rattle.meaning.specs.Calls.{Call, command, reset, marking, afterCall, runTo}
-use Rattle.demands_one_two.specs.Leaves.{resultIn}
+use Rattle.demands_one_two.specs.Effects.{resultIn}
 
 -- it stands in a slot; XDREAD has read it, or the XDWRITEREAD that left it; a reset has dropped it; XPWRITE has carried it over
 pub data Fate : Type 0 where
