@@ -10,8 +10,10 @@ use Rattle.folds.specs.declared.Found.{Found}
 use Rattle.folds.specs.Every.{every}
 use Rattle.folds.specs.All.{allBelow}
 use Rattle.folds.specs.Least.{leastBelow}
+use Rattle.geometry.specs.declared.Address.{Address}
 use Rattle.geometry.specs.declared.Geometry.{Geometry}
 use Rattle.geometry.specs.Header.{entryAt}
+use Rattle.drives.specs.declared.Came.{Came}
 
 -- "per drive 4 bytes, state .. and a 3-byte address"
 abbrev pub stateOf : List ℕ → Geometry → ℕ → ℕ
@@ -41,6 +43,20 @@ tableOk m g = every (statesOk m g ∷ addressesOk m g ∷ [])
 -- the drive with address a, compared as a whole number
 unfoldable pub driveOf : List ℕ → Geometry → ℕ → Found
 driveOf m g a = leastBelow (g .d) (λ i. eqb (addressOf m g i) a)
+
+-- a command that was sent to address n
+abbrev pub to : ℕ → Came
+to n = record { target = record { 0 = n } }
+
+-- the drive that a command was sent to, the one that it names as its secondary, and the one that a source entry of it names
+abbrev pub targetOf : List ℕ → Geometry → Came → Found
+targetOf m g a = driveOf m g (a .target .0)
+
+abbrev pub secondaryOf : List ℕ → Geometry → Came → Address → Found
+secondaryOf m g a x = driveOf m g (x .0)
+
+abbrev pub sourceDrive : List ℕ → Geometry → Came → Address → Found
+sourceDrive m g a x = driveOf m g (x .0)
 
 -- "Marking writes the state byte alone"
 unfoldable pub marked : List ℕ → Geometry → ℕ → ℕ → List ℕ

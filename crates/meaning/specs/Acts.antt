@@ -4,6 +4,7 @@ use Prim.Native.Nat.{ℕ, zero, suc, _+_, _*_}
 use mathlib.Core.List.{List, [], _∷_, _++_}
 use mathlib.Core.Bool.{Bool, cond}
 use lib.Dec.{eqb}
+use lib.ListN.{getD}
 use Rattle.octets.specs.Part.{part}
 use Rattle.octets.specs.Put.{put}
 use Rattle.octets.specs.Xor.{_⊻_}
@@ -11,13 +12,15 @@ use Rattle.octets.specs.Operands.{xorAll}
 use Rattle.folds.specs.Least.{index}
 use Rattle.geometry.specs.declared.Geometry.{Geometry}
 use Rattle.geometry.specs.Header.{slotAt, dataAt, place, blocksAt}
-use Rattle.drives.specs.Table.{driveOf}
+use Rattle.drives.specs.declared.Came.{Came}
+use Rattle.drives.specs.Table.{sourceDrive}
 use Rattle.slots.specs.Record.{bytesOf}
 use Rattle.slots.specs.Slots.{usedCount}
 use Rattle.slots.specs.Change.{entry, released}
 use Rattle.command.specs.declared.Source.{Source}
 use Rattle.command.specs.Command.{sourceOf}
 use Rattle.meaning.specs.declared.Span.{Span}
+use Rattle.meaning.specs.declared.Sum.{Sum}
 use Rattle.meaning.specs.declared.Act.{Act}
 use Rattle.meaning.specs.declared.Act.the-variants.{Read, Write, XpWrite, XdRead, Couple, Retain, Rebuild, Regenerate, XdWriteRead}
 
@@ -77,31 +80,31 @@ dataStores g x ndisc s = cond (eqb ndisc 0) (store (spanAt g x) s ∷ []) []
 -- ---- REBUILD and REGENERATE
 
 -- the drive that a source names, where its blocks start, and so many of them
-abbrev pub homeOf : List ℕ → Geometry → Source → ℕ
-homeOf m g x = index (driveOf m g (x .address .0))
+abbrev pub homeOf : List ℕ → Geometry → Came → Source → ℕ
+homeOf m g a x = index (sourceDrive m g a (x .address))
 
-abbrev pub startOf : List ℕ → Geometry → Source → ℕ
-startOf m g x = place g (homeOf m g x) (x .block .0)
+abbrev pub startOf : List ℕ → Geometry → Came → Source → ℕ
+startOf m g a x = place g (homeOf m g a x) (x .block .0)
 
-abbrev pub namedBlocks : List ℕ → Geometry → ℕ → Source → List ℕ
-namedBlocks m g count x = blocksAt m g (homeOf m g x) (x .block .0) count
+abbrev pub namedBlocks : List ℕ → Geometry → Came → ℕ → Source → List ℕ
+namedBlocks m g a count x = blocksAt m g (homeOf m g a x) (x .block .0) count
 
 -- the blocks that source entry i names
-abbrev pub sourceBlocks : List ℕ → Geometry → List ℕ → ℕ → ℕ → List ℕ
-sourceBlocks m g s count i = namedBlocks m g count (sourceOf s i)
+abbrev pub sourceBlocks : List ℕ → Geometry → Came → List ℕ → ℕ → ℕ → List ℕ
+sourceBlocks m g a s count i = namedBlocks m g a count (sourceOf s i)
 
 -- "The list is read from its first entry on": the entries left, from entry i on
-unfoldable pub sourcesFrom : List ℕ → Geometry → List ℕ → ℕ → ℕ → ℕ → List (List ℕ)
-sourcesFrom m g s count i zero = []
-sourcesFrom m g s count i (suc left) = sourceBlocks m g s count i ∷ sourcesFrom m g s count (i + 1) left
+unfoldable pub sourcesFrom : List ℕ → Geometry → Came → List ℕ → ℕ → ℕ → ℕ → List (List ℕ)
+sourcesFrom m g a s count i zero = []
+sourcesFrom m g a s count i (suc left) = sourceBlocks m g a s count i ∷ sourcesFrom m g a s count (i + 1) left
 
 -- "the intermediate data is the part of the data-out bytes that starts right after the list; it is one more operand"
 abbrev pub intData : Geometry → List ℕ → ℕ → ℕ → ℕ → List (List ℕ)
 intData g s count n int = cond (eqb int 0) [] (part s (8 + 8 * n) (count * g .l) ∷ [])
 
--- the XOR of the n sources and the intermediate data
-unfoldable pub gathered : List ℕ → Geometry → List ℕ → ℕ → ℕ → ℕ → List ℕ
-gathered m g s count n int = xorAll (sourcesFrom m g s count 0 n ++ intData g s count n int)
+-- "List: byte 0 number of sources": the XOR of the sources and the intermediate data
+unfoldable pub gathered : List ℕ → Geometry → List ℕ → ℕ → Sum → List ℕ
+gathered m g s count j = xorAll (sourcesFrom m g (j .came) s count 0 (getD s 0 0) ++ intData g s count (getD s 0 0) (j .int))
 
 -- ---- every command
 
@@ -117,9 +120,9 @@ leaves m g s (Couple x y mirror) = stored m (coupled m g x y mirror s)
 -- "Sec Ctl 11: the result is retained", as kind 1
 leaves m g s (Retain x i mirror ndisc) = stored m (dataStores g x ndisc s ++ slotStores m g i 1 x (resultOf m g x mirror s))
 -- "REBUILD writes the XOR to the target"
-leaves m g s (Rebuild x n int) = stored m (store (spanAt g x) (gathered m g s (x .count) n int) ∷ [])
+leaves m g s (Rebuild x j) = stored m (store (spanAt g x) (gathered m g s (x .count) j) ∷ [])
 -- "REGENERATE adds the target's own blocks and retains the XOR."
-leaves m g s (Regenerate x n int i) = stored m (slotStores m g i 2 x (blocksOf m g x ⊻ gathered m g s (x .count) n int))
+leaves m g s (Regenerate x j i) = stored m (slotStores m g i 2 x (blocksOf m g x ⊻ gathered m g s (x .count) j))
 -- A1: 53h "takes no slot"
 leaves m g s (XdWriteRead x disable) = stored m (dataStores g x disable s)
 
@@ -132,7 +135,7 @@ hands m g s (XpWrite x) = []
 hands m g s (XdRead x i) = part m (dataAt g i) (x .count * g .l)
 hands m g s (Couple x y mirror) = []
 hands m g s (Retain x i mirror ndisc) = []
-hands m g s (Rebuild x n int) = []
-hands m g s (Regenerate x n int i) = []
+hands m g s (Rebuild x j) = []
+hands m g s (Regenerate x j i) = []
 -- A1: 53h "puts the XOR in the receive room", of the data and the old blocks
 hands m g s (XdWriteRead x disable) = s ⊻ blocksOf m g x
