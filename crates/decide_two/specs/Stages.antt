@@ -61,4 +61,4 @@ xdwriteOf m g t k s =
     ∷ rule 4 (Cdb 1) (not (eqb (secOf k) 3) && eqb (ndiscOf k) 1) BadField
     ∷ [])
     (cond (eqb (secOf k) 3) (limitedOf false Nothing m g t k s)
-    (limitedOf (isAt t (secondaryOf m g (k .came) (k .second))) (secondaryOf m g (k .came) (k .second)) m g t k s))
+    (limitedOf (isAt t (secondaryOf m g (k .came) (k .second .0))) (secondaryOf m g (k .came) (k .second .0)) m g t k s))

@@ -41,8 +41,8 @@ Beside g (XpWrite x) a n = OffSpan g x a n
 Beside g (XdRead x i) a n = Away g a n
 Beside g (Couple x y mirror) a n = OffSpan g x a n × OffSpan g y a n
 Beside g (Retain x i mirror ndisc) a n = Away g a n × (eqb ndisc 0 ≡ true → OffSpan g x a n)
-Beside g (Rebuild x k int) a n = OffSpan g x a n
-Beside g (Regenerate x k int i) a n = Away g a n
+Beside g (Rebuild x j) a n = OffSpan g x a n
+Beside g (Regenerate x j i) a n = Away g a n
 Beside g (XdWriteRead x disable) a n = eqb disable 0 ≡ true → OffSpan g x a n
 
 -- no act writes before the slots
@@ -57,8 +57,8 @@ module _ (g : Geometry) (p : Placed g) where
   front-beside (XdRead x i) = inl (omega arith)
   front-beside (Couple x y mirror) = (before x, before y)
   front-beside (Retain x i mirror ndisc) = (inl (omega arith), λ e. before x)
-  front-beside (Rebuild x k int) = before x
-  front-beside (Regenerate x k int i) = inl (omega arith)
+  front-beside (Rebuild x j) = before x
+  front-beside (Regenerate x j i) = inl (omega arith)
   front-beside (XdWriteRead x disable) = λ e. before x
 
 module _ (s : List ℕ) (g : Geometry) (h : Shelf s g) (sent : List ℕ) (a n : ℕ) where
@@ -100,11 +100,11 @@ module _ (s : List ℕ) (g : Geometry) (h : Shelf s g) (sent : List ℕ) (a n : 
   leaves-beside room (Couple x y mirror) al w =
       off-span (put s (spanAt g x) sent) y (passedOn s g x y mirror sent) (length-passed x y mirror (al .0) (al .1) (al .2) (al .4)) (w .1) ∙ off-span s x sent (al .4) (w .0)
   leaves-beside room (Retain x i mirror ndisc) al w = retain-beside room x i mirror ndisc al (w .0) ∙ data-beside x (al .1) (eqb ndisc 0) (w .1)
-  leaves-beside room (Rebuild x k int) al w = off-span s x (gathered s g sent (x .count) k int) (length-gathered s g x k int sent (shelf-frame s g h) (al .1)) w
-  leaves-beside room (Regenerate x k int i) al w =
-      let bytes = blocksOf s g x ⊻ gathered s g sent (x .count) k int in
+  leaves-beside room (Rebuild x j) al w = off-span s x (gathered s g sent (x .count) j) (length-gathered s g x j sent (shelf-frame s g h) (al .1)) w
+  leaves-beside room (Regenerate x j i) al w =
+      let bytes = blocksOf s g x ⊻ gathered s g sent (x .count) j in
       ap (λ (t : List ℕ). part t a n) (stored-result s g i 2 x bytes (al .3 .takes))
       ∙ retain-away s g (shelf-frame s g h) (h .slots-ok) i (al .3 .takes) (resultIn 2 x bytes)
-      (regenerated-sound s g h sent x k int (al .0) (al .1) (al .2)) a n w
+      (regenerated-sound s g h sent x j (al .0) (al .1) (al .2)) a n w
   leaves-beside room (XdWriteRead x disable) al w =
       ap (λ (t : List ℕ). part t a n) (stored-alone s g x disable sent) ∙ data-beside x (al .1) (eqb disable 0) w

@@ -11,6 +11,7 @@ use Rattle.geometry.specs.declared.Geometry.{Geometry}
 use Rattle.geometry.specs.Header.{geometryOf, dataAt}
 use Rattle.geometry.specs.Frame.{Framed}
 use Rattle.geometry.specs.Places.{data-in}
+use Rattle.drives.specs.declared.Came.{Came}
 use Rattle.image.specs.Shelf.{shelf-frame}
 use Rattle.meaning.specs.declared.Span.{Span}
 use Rattle.meaning.specs.declared.Act.{Act}
@@ -43,13 +44,13 @@ module _ (s : List ℕ) (g : Geometry) (f : Framed s g) (sent : List ℕ) (room 
       omega arith
   hands-small (Couple x y mirror) a = lit< tt
   hands-small (Retain x i mirror ndisc) a = lit< tt
-  hands-small (Rebuild x n int) a = lit< tt
-  hands-small (Regenerate x n int i) a = lit< tt
+  hands-small (Rebuild x j) a = lit< tt
+  hands-small (Regenerate x j i) a = lit< tt
   hands-small (XdWriteRead x disable) a =
       let n = length-result s g f x (a .0) 0 sent (a .1) in
       omega (arith, blocks-small x (a .0))
 
-pub count-small : (m : List ℕ) (a : ℕ) (c s r : List ℕ) → stepOutcome m a c s r .count < 4294967296
+pub count-small : (m : List ℕ) (a : Came) (c s r : List ℕ) → stepOutcome m a c s r .count < 4294967296
 unfolding stepOutcome
 count-small m a c s r = pick (decided m a c s r) refl
   where

@@ -37,8 +37,8 @@ afterwards m g s (XpWrite x) = results m g
 afterwards m g s (XdRead x i) = sansFirst (answers (x .drive) (x .block .0)) (results m g)
 afterwards m g s (Couple x y mirror) = results m g
 afterwards m g s (Retain x i mirror ndisc) = resultIn 1 x (resultOf m g x mirror s) ∷ results m g
-afterwards m g s (Rebuild x n int) = results m g
-afterwards m g s (Regenerate x n int i) = resultIn 2 x (blocksOf m g x ⊻ gathered m g s (x .count) n int) ∷ results m g
+afterwards m g s (Rebuild x j) = results m g
+afterwards m g s (Regenerate x j i) = resultIn 2 x (blocksOf m g x ⊻ gathered m g s (x .count) j) ∷ results m g
 afterwards m g s (XdWriteRead x disable) = results m g
 
 module _ (m : List ℕ) (g : Geometry) (h : Shelf m g) (s : List ℕ) where
@@ -72,12 +72,12 @@ module _ (m : List ℕ) (g : Geometry) (h : Shelf m g) (s : List ℕ) where
       let hw = shelf-written m g h (spanAt g x) s (span-after-media g x) in
       kept-results w _ g p (put-outside w g (spanAt g y) _ p (inr (span-after-media g y))) (hw .slots-ok) ∙ written-results (spanAt g x) s (span-after-media g x)
   results-after room (Retain x i mirror ndisc) a = retain-after room x i mirror ndisc a
-  results-after room (Rebuild x n int) a = written-results (spanAt g x) (gathered m g s (x .count) n int) (span-after-media g x)
-  results-after room (Regenerate x n int i) a =
-      let bytes = blocksOf m g x ⊻ gathered m g s (x .count) n int in
+  results-after room (Rebuild x j) a = written-results (spanAt g x) (gathered m g s (x .count) j) (span-after-media g x)
+  results-after room (Regenerate x j i) a =
+      let bytes = blocksOf m g x ⊻ gathered m g s (x .count) j in
       ap (λ (t : List ℕ). results t g) (stored-result m g i 2 x bytes (a .3 .takes))
       ∙ retain-results m g (shelf-frame m g h) (h .slots-ok) i (a .3 .takes) (resultIn 2 x bytes)
-      (regenerated-sound m g h s x n int (a .0) (a .1) (a .2))
+      (regenerated-sound m g h s x j (a .0) (a .1) (a .2))
   results-after room (XdWriteRead x disable) a =
       ap (λ (t : List ℕ). results t g) (stored-alone m g x disable s) ∙ written-results (spanAt g x) (cond (eqb disable 0) s []) (span-after-media g x)
 

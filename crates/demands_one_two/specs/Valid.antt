@@ -16,6 +16,7 @@ use Rattle.results.specs.Best.{newest-at}
 use Rattle.image.specs.Shelf.{Shelf, shelf-frame}
 use Rattle.image.specs.Keeps.{shelf-retained, shelf-released, shelf-written}
 use Rattle.meaning.specs.declared.Span.{Span}
+use Rattle.meaning.specs.declared.Sum.{Sum}
 use Rattle.meaning.specs.declared.Act.{Act}
 use Rattle.meaning.specs.declared.Act.the-variants.{Read, Write, XpWrite, XdRead, Couple, Retain, Rebuild, Regenerate, XdWriteRead}
 use Rattle.meaning.specs.Acts.{spanAt, blocksOf, resultOf, gathered, leaves}
@@ -39,22 +40,22 @@ sound-in s g kind x bytes lo hi b m e =
     }
 
 module _ (s : List ℕ) (g : Geometry) (h : Shelf s g) (sent : List ℕ) where
-  regenerated-long : (x : Span) (n int : ℕ) → Blocks s g x → Sourced s g x n int sent → length (blocksOf s g x ⊻ gathered s g sent (x .count) n int) ≡ x .count * g .l
-  regenerated-long x n int b w =
+  regenerated-long : (x : Span) (j : Sum) → Blocks s g x → Sourced s g x j sent → length (blocksOf s g x ⊻ gathered s g sent (x .count) j) ≡ x .count * g .l
+  regenerated-long x j b w =
       let f = shelf-frame s g h in
       let p = length-blocks s g f x b in
-      let q = length-gathered s g x n int sent f w in
-      length-xor-le (blocksOf s g x) (gathered s g sent (x .count) n int) (omega arith) ∙ p
+      let q = length-gathered s g x j sent f w in
+      length-xor-le (blocksOf s g x) (gathered s g sent (x .count) j) (omega arith) ∙ p
 
   -- what XDWRITE retains, and what REGENERATE
   pub retained-sound : (x : Span) (mirror : ℕ) → Blocks s g x → Filled g x sent → Limited g x → Sound g (resultIn 1 x (resultOf s g x mirror sent))
   retained-sound x mirror b e m =
       sound-in s g 1 x (resultOf s g x mirror sent) (omega arith) (omega arith) b m (length-result s g (shelf-frame s g h) x b mirror sent e)
 
-  pub regenerated-sound : (x : Span) (n int : ℕ) → Blocks s g x → Sourced s g x n int sent → Limited g x
-      → Sound g (resultIn 2 x (blocksOf s g x ⊻ gathered s g sent (x .count) n int))
-  regenerated-sound x n int b w m =
-      sound-in s g 2 x (blocksOf s g x ⊻ gathered s g sent (x .count) n int) (omega arith) (omega arith) b m (regenerated-long x n int b w)
+  pub regenerated-sound : (x : Span) (j : Sum) → Blocks s g x → Sourced s g x j sent → Limited g x
+      → Sound g (resultIn 2 x (blocksOf s g x ⊻ gathered s g sent (x .count) j))
+  regenerated-sound x j b w m =
+      sound-in s g 2 x (blocksOf s g x ⊻ gathered s g sent (x .count) j) (omega arith) (omega arith) b m (regenerated-long x j b w)
 
   kept-retain : (x : Span) (i mirror ndisc : ℕ) → Allowed s g sent 0 (Retain x i mirror ndisc) → Shelf (leaves s g sent (Retain x i mirror ndisc)) g
   kept-retain x i mirror ndisc (b, e, m, v) =
@@ -75,10 +76,10 @@ module _ (s : List ℕ) (g : Geometry) (h : Shelf s g) (sent : List ℕ) where
   leaves-shelf room (Couple x y mirror) a =
       shelf-written (put s (spanAt g x) sent) g (shelf-written s g h (spanAt g x) sent (span-after-media g x)) (spanAt g y) _ (span-after-media g y)
   leaves-shelf room (Retain x i mirror ndisc) a = kept-retain x i mirror ndisc a
-  leaves-shelf room (Rebuild x n int) a = shelf-written s g h (spanAt g x) (gathered s g sent (x .count) n int) (span-after-media g x)
-  leaves-shelf room (Regenerate x n int i) a =
-      let bytes = blocksOf s g x ⊻ gathered s g sent (x .count) n int in
+  leaves-shelf room (Rebuild x j) a = shelf-written s g h (spanAt g x) (gathered s g sent (x .count) j) (span-after-media g x)
+  leaves-shelf room (Regenerate x j i) a =
+      let bytes = blocksOf s g x ⊻ gathered s g sent (x .count) j in
       subst (λ (t : List ℕ). Shelf t g) (sym (stored-result s g i 2 x bytes (a .3 .takes)))
-      (shelf-retained s g h i (a .3 .takes) (resultIn 2 x bytes) (regenerated-sound x n int (a .0) (a .1) (a .2)))
+      (shelf-retained s g h i (a .3 .takes) (resultIn 2 x bytes) (regenerated-sound x j (a .0) (a .1) (a .2)))
   leaves-shelf room (XdWriteRead x disable) a =
       subst (λ (t : List ℕ). Shelf t g) (sym (stored-alone s g x disable sent)) (shelf-written s g h (spanAt g x) (cond (eqb disable 0) sent []) (span-after-media g x))

@@ -10,7 +10,6 @@ use Rattle.folds.specs.declared.Found.{Found}
 use Rattle.folds.specs.Every.{every}
 use Rattle.folds.specs.All.{allBelow}
 use Rattle.folds.specs.Least.{leastBelow}
-use Rattle.geometry.specs.declared.Address.{Address}
 use Rattle.geometry.specs.declared.Geometry.{Geometry}
 use Rattle.geometry.specs.Header.{entryAt}
 use Rattle.drives.specs.declared.Came.{Came}
@@ -52,11 +51,11 @@ to n = record { target = record { 0 = n } }
 abbrev pub targetOf : List ℕ → Geometry → Came → Found
 targetOf m g a = driveOf m g (a .target .0)
 
-abbrev pub secondaryOf : List ℕ → Geometry → Came → Address → Found
-secondaryOf m g a x = driveOf m g (x .0)
+abbrev pub secondaryOf : List ℕ → Geometry → Came → ℕ → Found
+secondaryOf m g a x = driveOf m g x
 
-abbrev pub sourceDrive : List ℕ → Geometry → Came → Address → Found
-sourceDrive m g a x = driveOf m g (x .0)
+abbrev pub sourceDrive : List ℕ → Geometry → Came → ℕ → Found
+sourceDrive m g a x = driveOf m g x
 
 -- "Marking writes the state byte alone"
 unfoldable pub marked : List ℕ → Geometry → ℕ → ℕ → List ℕ

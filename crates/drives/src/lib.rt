@@ -57,7 +57,7 @@ pub fn find_target(image: &[u8], g: Geometry, came: Came) -> Found
 // The drive that a command names as its secondary.
 pub fn find_secondary(image: &[u8], g: Geometry, came: Came, address: Address) -> Found
     requires { ⌜ Framed (now image) g ⌝ }
-    ensures { λ r. ⌜ r ≡ secondaryOf (now (image .entry)) g came address ⌝ }
+    ensures { λ r. ⌜ r ≡ secondaryOf (now (image .entry)) g came (address .0) ⌝ }
 {
     find_drive(image, g, address)
 }
@@ -65,7 +65,7 @@ pub fn find_secondary(image: &[u8], g: Geometry, came: Came, address: Address) -
 // The drive that a source entry names.
 pub fn find_source(image: &[u8], g: Geometry, came: Came, address: Address) -> Found
     requires { ⌜ Framed (now image) g ⌝ }
-    ensures { λ r. ⌜ r ≡ sourceDrive (now (image .entry)) g came address ⌝ }
+    ensures { λ r. ⌜ r ≡ sourceDrive (now (image .entry)) g came (address .0) ⌝ }
 {
     find_drive(image, g, address)
 }

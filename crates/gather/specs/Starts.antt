@@ -21,7 +21,7 @@ use Rattle.meaning.specs.Acts.{homeOf, startOf}
 use Rattle.gather.specs.Job.{Named, Listed}
 
 -- one source
-module _ (s : List ℕ) (g : Geometry) (a : Came) (x : Source) (f : Found) (d : ℕ) (fe : f ≡ sourceDrive s g a (x .address)) (de : d ≡ index f) where
+module _ (s : List ℕ) (g : Geometry) (a : Came) (x : Source) (f : Found) (d : ℕ) (fe : f ≡ sourceDrive s g a (x .address .0)) (de : d ≡ index f) where
   home-by : d ≡ homeOf s g a x
   home-by = de ∙ ap index fe
 

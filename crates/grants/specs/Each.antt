@@ -106,15 +106,15 @@ module _ (m : List ℕ) (g : Geometry) (t : ℕ) (s : List ℕ) (r : ℕ) (v : S
 
       pick : (b : Bool) → eqb (secOf k) 3 ≡ b
           → cond b (Go (Retain (spanOf t k) (index (emptySlot m g)) (mirrorOf k) (ndiscOf k)) Good)
-          (Go (Couple (spanOf t k) (secondOf (secondaryOf m g (k .came) (k .second)) k) (mirrorOf k)) Good) ≡ Go x y
+          (Go (Couple (spanOf t k) (secondOf (secondaryOf m g (k .came) (k .second .0)) k) (mirrorOf k)) Good) ≡ Go x y
           → Grants m g t s r x y
       pick true q e =
           just m g t s r x _ y e refl
           (own k (not-zero _ (p .idle-pass .0)) (ltb-false _ _ (p .range-pass .0)), p .sent, f .at-most, free (with-it (eqb (secOf k) 3) _ q (p .busy-pass .0)))
       pick false q e =
           let unless : (z : Bool) → (not (eqb (secOf k) 3) && z) ≡ false → z ≡ false = (λ z h. without-it (eqb (secOf k) 3) z q h) in
-          let there-is = found (secondaryOf m g (k .came) (k .second)) (unless _ (p .nested-pass .0)) in
-          let there : Range g (index (secondaryOf m g (k .came) (k .second))) (k .spot .0) (k .count) =
+          let there-is = found (secondaryOf m g (k .came) (k .second .0)) (unless _ (p .nested-pass .0)) in
+          let there : Range g (index (secondaryOf m g (k .came) (k .second .0))) (k .spot .0) (k .count) =
           record { drive-in = drive-inside m g _ _ there-is .0; range-in = ltb-false _ _ (unless _ (p .nested-pass .1 .1 .0)) } in
           just m g t s r x _ y e refl (
             own k (not-zero _ (p .idle-pass .0)) (ltb-false _ _ (p .range-pass .0)),

@@ -31,7 +31,7 @@ or-clear (Beyond i) y e = let z : _≡_ {A = ℕ} 0 1 = cc in absurd (omega arit
 
 module _ (m : List ℕ) (g : Geometry) (a : Came) where
   -- one source
-  names-other : (x : Span) (i : ℕ) (e : Source) (f : Found) → sourceDrive m g a (e .address) ≡ f → driveBad m g (x .count) i (e .block .0) f ≡ Clear
+  names-other : (x : Span) (i : ℕ) (e : Source) (f : Found) → sourceDrive m g a (e .address .0) ≡ f → driveBad m g (x .count) i (e .block .0) f ≡ Clear
       → isAt (x .drive) f ≡ false → NamesOther m g a x e
   unfolding driveBad
   names-other x i e Nothing q c o = let z : _≡_ {A = ℕ} 0 1 = cc in absurd (omega arith)
@@ -60,9 +60,9 @@ module _ (m : List ℕ) (g : Geometry) (a : Came) where
         (λ ne. clear-at count (i + 1) left (c .1) j (omega arith) (omega arith))
         (same i j)
 
-    not-own : (n t : ℕ) → ownEntry m g a s n t ≡ Nothing → (j : ℕ) → j < n → isAt t (sourceDrive m g a (sourceOf s j .address)) ≡ false
+    not-own : (n t : ℕ) → ownEntry m g a s n t ≡ Nothing → (j : ℕ) → j < n → isAt t (sourceDrive m g a (sourceOf s j .address .0)) ≡ false
     unfolding ownEntry
-    not-own n t e j l = least-nothing (λ i. isAt t (sourceDrive m g a (sourceOf s i .address))) n e j l
+    not-own n t e j l = least-nothing (λ i. isAt t (sourceDrive m g a (sourceOf s i .address .0))) n e j l
 
     pub entries : (x : Span) (n : ℕ) → firstBad m g a s (x .count) 0 n ≡ Clear → ownEntry m g a s n (x .drive) ≡ Nothing
         → (j : ℕ) → j < n → NamesOther m g a x (sourceOf s j)

@@ -98,7 +98,7 @@ passed-by o m g t k s room p =
 -- of the checks of fields, those that grant something: XDWRITE's length and secondary, the other lengths
 pub record SecondFields (m : List ℕ) (g : Geometry) (t : ℕ) (k : Command) : Type 0 where
   pub at-most : k .count ≤ g .m
-  pub not-own : (not (eqb (secOf k) 3) && isAt t (secondaryOf m g (k .came) (k .second))) ≡ false
+  pub not-own : (not (eqb (secOf k) 3) && isAt t (secondaryOf m g (k .came) (k .second .0))) ≡ false
 
 pub second-fields : (m : List ℕ) (g : Geometry) (t : ℕ) (k : Command) → AllPass (fields XdWrite m g t k) → SecondFields m g t k
 second-fields m g t k p = record { at-most = ltb-false _ _ (p .1 .1 .1 .0); not-own = p .1 .1 .1 .1 .0 }

@@ -20,10 +20,10 @@ use Rattle.meaning.specs.Sources.{isAt, driveBad, entryBad, orNext, firstBad}
 
 -- the test of entry i, as it was made
 pub own-is : (m : List ℕ) (g : Geometry) (a : Came) (s : List ℕ) (t i : ℕ) (y : Source) (f : Found) (b : Bool) → y ≡ sourceOf s i
-    → f ≡ sourceDrive m g a (y .address)
+    → f ≡ sourceDrive m g a (y .address .0)
     → b ≡ isAt t f
-    → isAt t (sourceDrive m g a (sourceOf s i .address)) ≡ b
-own-is m g a s t i y f b ey ef eb = sym (eb ∙ ap (isAt t) ef ∙ ap (λ (x : Source). isAt t (sourceDrive m g a (x .address))) ey)
+    → isAt t (sourceDrive m g a (sourceOf s i .address .0)) ≡ b
+own-is m g a s t i y f b ey ef eb = sym (eb ∙ ap (isAt t) ef ∙ ap (λ (x : Source). isAt t (sourceDrive m g a (x .address .0))) ey)
 
 -- ---- the first that fails
 
@@ -42,7 +42,7 @@ module _ (m : List ℕ) (g : Geometry) (a : Came) (s : List ℕ) (count : ℕ) w
   bad-end i n h = rw (left-none n i h)
 
   -- the lookup of entry i gives f, which has the fault x
-  pub bad-at : (i n : ℕ) (y : Source) (f : Found) (x : Fault) → i < n → y ≡ sourceOf s i → sourceDrive m g a (y .address) ≡ f
+  pub bad-at : (i n : ℕ) (y : Source) (f : Found) (x : Fault) → i < n → y ≡ sourceOf s i → sourceDrive m g a (y .address .0) ≡ f
       → driveBad m g count i (y .block .0) f ≡ x
       → firstBad m g a s count i (n - i) ≡ orNext x (firstBad m g a s count (i + 1) (n - (i + 1)))
   unfolding firstBad entryBad

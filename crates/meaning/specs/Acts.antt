@@ -81,7 +81,7 @@ dataStores g x ndisc s = cond (eqb ndisc 0) (store (spanAt g x) s ∷ []) []
 
 -- the drive that a source names, where its blocks start, and so many of them
 abbrev pub homeOf : List ℕ → Geometry → Came → Source → ℕ
-homeOf m g a x = index (sourceDrive m g a (x .address))
+homeOf m g a x = index (sourceDrive m g a (x .address .0))
 
 abbrev pub startOf : List ℕ → Geometry → Came → Source → ℕ
 startOf m g a x = place g (homeOf m g a x) (x .block .0)

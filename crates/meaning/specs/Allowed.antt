@@ -56,7 +56,7 @@ empty-free m g i e = let w = empty-inside m g i e in record { takes = e; slot-in
 -- the source e names blocks of another drive, which is present
 pub record NamesOther (m : List ℕ) (g : Geometry) (a : Came) (x : Span) (e : Source) : Type 0 where
   pub drive : ℕ
-  pub found : sourceDrive m g a (e .address) ≡ At drive
+  pub found : sourceDrive m g a (e .address .0) ≡ At drive
   pub range : Range g drive (e .block .0) (x .count)
   pub present : failed m g drive ≡ false
   pub other : drive ≡ x .drive → ⊥

@@ -96,7 +96,7 @@ fields XdWrite m g t k =
     ++ rule 4 (Cdb 1) (eqb (secOf k) 1) BadField
     ∷ rule 4 (Cdb 1) (not (eqb (secOf k) 3) && eqb (ndiscOf k) 1) BadField
     ∷ aboveM 6 g k
-    ++ rule 4 (Cdb 8) (not (eqb (secOf k) 3) && isAt t (secondaryOf m g (k .came) (k .second))) BadField
+    ++ rule 4 (Cdb 8) (not (eqb (secOf k) 3) && isAt t (secondaryOf m g (k .came) (k .second .0))) BadField
     ∷ zeroControl 15 k
 fields XpWrite m g t k = zeroFlags XpWrite k ++ zeroSix k ++ aboveM 7 g k ++ zeroControl 9 k
 fields XdRead m g t k = zeroFlags XdRead k ++ zeroSix k ++ zeroControl 9 k
@@ -236,7 +236,7 @@ secondRules m g k f =
     ∷ []
 
 abbrev pub nested : Op → List ℕ → Geometry → Command → List ℕ → List Check
-nested XdWrite m g k s = secondRules m g k (secondaryOf m g (k .came) (k .second))
+nested XdWrite m g k s = secondRules m g k (secondaryOf m g (k .came) (k .second .0))
 nested XpWrite m g k s = []
 nested XdRead m g k s = []
 nested Rebuild m g k s = sourceRules (firstBad m g (k .came) s (resolved g k s .count) 0 (getD s 0 0))
@@ -277,7 +277,7 @@ abbrev pub acts : Op → List ℕ → Geometry → ℕ → Command → List ℕ 
 acts XdWrite m g t k s =
     cond (eqb (secOf k) 3)
     (Go (Retain (spanOf t k) (index (emptySlot m g)) (mirrorOf k) (ndiscOf k)) Good)
-    (Go (Couple (spanOf t k) (secondOf (secondaryOf m g (k .came) (k .second)) k) (mirrorOf k)) Good)
+    (Go (Couple (spanOf t k) (secondOf (secondaryOf m g (k .came) (k .second .0)) k) (mirrorOf k)) Good)
 acts XpWrite m g t k s = Go (ToXpWrite (spanOf t k)) Good
 acts XdRead m g t k s = Go (ToXdRead (spanOf t k) (index (newestOf m g t (k .block .0)))) Good
 acts Rebuild m g t k s = Go (ToRebuild (spanOf t (resolved g k s)) (sumOf k)) Good

@@ -20,7 +20,7 @@ isAt t Nothing = false
 
 -- the first of n entries of the list s that is drive t
 unfoldable pub ownEntry : List ℕ → Geometry → Came → List ℕ → ℕ → ℕ → Found
-ownEntry m g a s n t = leastBelow n (λ i. isAt t (sourceDrive m g a (sourceOf s i .address)))
+ownEntry m g a s n t = leastBelow n (λ i. isAt t (sourceDrive m g a (sourceOf s i .address .0)))
 
 -- "for one entry, address, then failed drive, then range": of count blocks from block b on
 unfoldable pub driveBad : List ℕ → Geometry → ℕ → ℕ → ℕ → Found → Fault
@@ -28,7 +28,7 @@ driveBad m g count i b Nothing = Absent i
 driveBad m g count i b (At d) = cond (failed m g d) (Failed i d) (cond (ltb (g .b) (b + count)) (Beyond i) Clear)
 
 unfoldable pub entryBad : List ℕ → Geometry → Came → List ℕ → ℕ → ℕ → Fault
-entryBad m g a s count i = driveBad m g count i (sourceOf s i .block .0) (sourceDrive m g a (sourceOf s i .address))
+entryBad m g a s count i = driveBad m g count i (sourceOf s i .block .0) (sourceDrive m g a (sourceOf s i .address .0))
 
 -- the fault, or where there is none the next
 abbrev pub orNext : Fault → Fault → Fault

@@ -55,8 +55,8 @@ module _ (m : List ℕ) (g : Geometry) (h : Shelf m g) (sent : List ℕ) (es : L
       pick (XdRead x i) al = waiting-read (x .drive) (x .block .0) es ∙ ap (sansFirst (answers (x .drive) (x .block .0))) e
       pick (Couple x y mirror) al = e
       pick (Retain x i mirror ndisc) al = more _ _
-      pick (Rebuild x n int) al = e
-      pick (Regenerate x n int i) al = more _ _
+      pick (Rebuild x j) al = e
+      pick (Regenerate x j i) al = more _ _
       pick (XdWriteRead x disable) al = waiting-miss _ es refl ∙ e
 
   -- ---- sums
@@ -169,7 +169,7 @@ module _ (m : List ℕ) (g : Geometry) (h : Shelf m g) (sent : List ℕ) (es : L
         (eq-eqb mirror 0 (fair .0))
         ∙ couple-sum x y (al .0) (al .1) (al .2) (al .3) (al .4) (fair .1))
     act-sum room (Retain x i mirror ndisc) al fair = xd-sum room x i mirror ndisc al fair
-    act-sum room (Rebuild x n int) al fair = absurd fair
-    act-sum room (Regenerate x n int i) al fair =
-        ap₂ _⊻_ (quiet room (Regenerate x n int i) al (λ a n l. inr l)) (owed-miss g r _ es refl)
+    act-sum room (Rebuild x j) al fair = absurd fair
+    act-sum room (Regenerate x j i) al fair =
+        ap₂ _⊻_ (quiet room (Regenerate x j i) al (λ a n l. inr l)) (owed-miss g r _ es refl)
     act-sum room (XdWriteRead x disable) al fair = xdwriteread-sum room x disable al

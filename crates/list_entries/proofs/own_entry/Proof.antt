@@ -13,7 +13,7 @@ use Rattle.list_entries.proofs.own_entry.Statement.{statement}
 use Rattle.list_entries.proofs.own_entry.Tie as tie
 
 abbrev Inv-loop : tie.InvT-loop
-Inv-loop image g came sent n t i₀ i = (i ≤ n) × (leastBelow i (λ j. isAt t (sourceDrive image g came (sourceOf sent j .address))) ≡ Nothing)
+Inv-loop image g came sent n t i₀ i = (i ≤ n) × (leastBelow i (λ j. isAt t (sourceDrive image g came (sourceOf sent j .address .0))) ≡ Nothing)
 
 abbrev μ-loop : tie.MeasureT-loop
 μ-loop image g came sent n t i₀ i = n - i
