@@ -7,14 +7,11 @@ use Rattle.octets.specs.Put.{put, put-nil}
 use Rattle.geometry.specs.declared.Geometry.{Geometry}
 use Rattle.meaning.specs.declared.Act.{Act}
 use Rattle.meaning.specs.Acts.{leaves, hands}
-use Rattle.meaning.specs.Allowed.{Allowed, Few}
+use Rattle.meaning.specs.Allowed.{Allowed}
 
 module _ (s : List ℕ) (g : Geometry) (sent : List ℕ) (act : Act) (a : Act) (e : act ≡ a) where
   pub allowed-as : (room : ℕ) → Allowed s g sent room act → Allowed s g sent room a
   allowed-as room h = rw e at h
-
-  pub few-as : Few act → Few a
-  few-as h = rw e at h
 
   -- what was done and handed over
   pub done-as : (room t u : List ℕ) (n : ℕ) → t ≡ leaves s g sent a → u ≡ put room 0 (hands s g sent a) → n ≡ length (hands s g sent a)

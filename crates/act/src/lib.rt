@@ -13,11 +13,11 @@ ghost use lib.ListN.{length};
 ghost use Rattle.octets.specs.Put.{put};
 ghost use Rattle.geometry.specs.Frame.{Framed};
 ghost use Rattle.meaning.specs.Acts.{leaves, hands};
-ghost use Rattle.meaning.specs.Allowed.{Allowed, Few};
+ghost use Rattle.meaning.specs.Allowed.{Allowed};
 
 // Carries the command out; the result is how many bytes went to the room's front.
 pub fn carry_out(image: &mut [u8], g: Geometry, act: Act, sent: &[u8], room: &mut [u8]) -> usize
-    requires { ⌜ Framed (now image) g × Allowed (now image) g (now sent) (length (now room)) act × Few act ⌝ }
+    requires { ⌜ Framed (now image) g × Allowed (now image) g (now sent) (length (now room)) act ⌝ }
     ensures { λ r. ⌜ (now (image .exit) ≡ leaves (now (image .entry)) g (now (sent .entry)) act) × (now (room .exit) ≡ put (now (room .entry)) 0 (hands (now (image .entry)) g (now (sent .entry)) act)) × (r ≡ length (hands (now (image .entry)) g (now (sent .entry)) act)) ⌝ }
 {
     match act {
@@ -39,12 +39,12 @@ pub fn carry_out(image: &mut [u8], g: Geometry, act: Act, sent: &[u8], room: &mu
             xdwrite::retain(image, g, x, i, mirror, ndisc, sent);
             0
         }
-        Act::Rebuild(x, n, int) => {
-            rebuild::rebuild(image, g, x, n, int, sent);
+        Act::Rebuild(x, j) => {
+            rebuild::rebuild(image, g, x, j, sent);
             0
         }
-        Act::Regenerate(x, n, int, i) => {
-            rebuild::regenerate(image, g, x, n, int, i, sent);
+        Act::Regenerate(x, j, i) => {
+            rebuild::regenerate(image, g, x, j, i, sent);
             0
         }
         Act::XdWriteRead(x, disable) => xdwrite::xdwriteread(image, g, x, disable, sent, room),

@@ -15,7 +15,8 @@ use Rattle.geometry.specs.Header.{geometryOf, place, slotSize, blocksAt}
 use Rattle.geometry.specs.Frame.{Placed}
 use Rattle.geometry.specs.Outside.{outside-away}
 use Rattle.geometry.specs.Places.{place-after-media}
-use Rattle.drives.specs.Table.{stateOf, addressOf, driveOf, marked}
+use Rattle.drives.specs.declared.Came.{Came}
+use Rattle.drives.specs.Table.{stateOf, addressOf, targetOf, marked}
 use Rattle.drives.specs.Lookup.{drive-inside}
 use Rattle.drives.specs.Front.{state-same, address-same}
 use Rattle.drives.specs.Marked.{state-marked, state-marked-other, address-marked, part-marked}
@@ -30,10 +31,10 @@ use Rattle.meaning.specs.Checks.{isNothing, calls}
 use Rattle.meaning.specs.Step.{answered, untouched, resetAnswer, resetImage, markCalls, markAnswer, markImage}
 use Rattle.demands_one_two.specs.Calls.{reset-shelf, reset-front, mark-shelf}
 
--- address a names drive t of the valid image m, present or failed
-pub record Names (m : List ℕ) (g : Geometry) (a t : ℕ) : Type 0 where
+-- a call that came as a was made to drive t of the valid image m, present or failed
+pub record Names (m : List ℕ) (g : Geometry) (a : Came) (t : ℕ) : Type 0 where
   pub shelf : Shelf m g
-  pub found : driveOf m g a ≡ At t
+  pub found : targetOf m g a ≡ At t
 
 -- what either leaves alone: the image is valid, and no address and no block has moved
 pub record KeepsRest (m t : List ℕ) (g : Geometry) : Type 0 where
@@ -41,9 +42,9 @@ pub record KeepsRest (m t : List ℕ) (g : Geometry) : Type 0 where
   pub address-kept : (d : ℕ) → d < g .d → addressOf t g d ≡ addressOf m g d
   pub blocks-kept : (d b n : ℕ) → blocksAt t g d b n ≡ blocksAt m g d b n
 
-module _ (m : List ℕ) (g : Geometry) (a t : ℕ) (h : Names m g a t) where
-  there : driveOf m (geometryOf m) a ≡ At t
-  there = ap (λ (k : Geometry). driveOf m k a) (h .shelf .header) ∙ h .found
+module _ (m : List ℕ) (g : Geometry) (a : Came) (t : ℕ) (h : Names m g a t) where
+  there : targetOf m (geometryOf m) a ≡ At t
+  there = ap (λ (k : Geometry). targetOf m k a) (h .shelf .header) ∙ h .found
 
   pass : AllPass (calls m a)
   pass = (ap not (shelf-valid m g (h .shelf)), (ap isNothing there, tt))
@@ -52,10 +53,10 @@ module _ (m : List ℕ) (g : Geometry) (a t : ℕ) (h : Names m g a t) where
   p = shelf-frame m g (h .shelf) .placed
 
   inside : t < g .d
-  inside = drive-inside m g a t (h .found) .0
+  inside = drive-inside m g (a .target .0) t (h .found) .0
 
   -- what is done to drive t of m's own geometry is done to drive t
-  same : (f : Geometry → ℕ → List ℕ) → f (geometryOf m) (index (driveOf m (geometryOf m) a)) ≡ f g t
+  same : (f : Geometry → ℕ → List ℕ) → f (geometryOf m) (index (targetOf m (geometryOf m) a)) ≡ f g t
   same f = ap₂ (λ (k : Geometry) (x : Found). f k (index x)) (h .shelf .header) there
 
   -- ---- "Hard reset drops all results of its drive, present or failed; the others keep their order"

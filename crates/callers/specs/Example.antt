@@ -18,7 +18,8 @@ use Rattle.folds.specs.All.{allBelow}
 use Rattle.folds.specs.Count.{countBelow}
 use Rattle.folds.specs.Least.{leastBelow}
 use Rattle.geometry.specs.Header.{rangesOk, offsetsOk, framedOk, slotAt, place}
-use Rattle.drives.specs.Table.{statesOk, newAddress, addressesOk, tableOk, driveOf, failed}
+use Rattle.drives.specs.declared.Came.{Came}
+use Rattle.drives.specs.Table.{statesOk, newAddress, addressesOk, tableOk, driveOf, to, sourceDrive, failed}
 use Rattle.slots.specs.Record.{slotOf, bytesOf}
 use Rattle.slots.specs.Slots.{slotOk, eachOk, ranksOk, slotsOk}
 use Rattle.slots.specs.Find.{emptySlot, better, bestOf, newestOf}
@@ -79,85 +80,85 @@ module _ (m : List ℕ) (t b : ℕ) (l : t < 3) (k : b + 1 ≤ 2) (up : failed m
   at = record { range = record { drive-in = l; range-in = k }; present = up; some = lit≤ tt }
 
   -- as a source of drive d's
-  from : (a d : ℕ) → a < 4294967296 → driveOf m benchShape a ≡ At t → (t ≡ d → ⊥) → Names m benchShape (blocks d 0 1) (source a b)
-  from a d s f o = record { there = record { drive = t; found = f; range = record { drive-in = l; range-in = k }; present = up; other = o }; small = s }
+  from : (a : Came) (x d : ℕ) → x < 4294967296 → sourceDrive m benchShape a x ≡ At t → (t ≡ d → ⊥) → Names m benchShape a (blocks d 0 1) (source x b)
+  from a x d s f o = record { there = record { drive = t; found = f; range = record { drive-in = l; range-in = k }; present = up; other = o }; small = s }
 
-first : Target bench benchShape 1 0
+first : Target bench benchShape (to 1) 0
 unfolding driveOf leastBelow part num
 first = record { shelf = bench-shelf; found = refl; present = refl }
 
 -- ---- the cases, each from its law
 
 -- C1
-pub c1 : Does bench 1 (xdwrite 0x00) fresh room 0 (shelfOf 0 vacant fresh two parity) room
+pub c1 : Does bench (to 1) (xdwrite 0x00) fresh room 0 (shelfOf 0 vacant fresh two parity) room
 unfolding cdbOf toBe driveOf leastBelow part num put place _⊻_
 c1 =
-    coupled-does bench benchShape 1 0 first 0 1 fresh room (at bench 0 0 (lit≤ tt) (lit≤ tt) refl) refl (lit≤ tt) 0 0 0
+    coupled-does bench benchShape (to 1) 0 first 0 1 fresh room (at bench 0 0 (lit≤ tt) (lit≤ tt) refl) refl (lit≤ tt) 0 0 0
     (record { no-other = refl; mirror-is = refl; ndisc-is = refl; sec-is = refl }) (inl refl) 3 2 0 refl (lit≤ tt)
     (at bench 2 0 (lit≤ tt) (lit≤ tt) refl) (λ q. omega arith)
 
 -- C2
-pub c2 : Does bench 1 (xdwrite 0x06) fresh room 0 afterC2 room
+pub c2 : Does bench (to 1) (xdwrite 0x06) fresh room 0 afterC2 room
 unfolding cdbOf toBe emptySlot leastBelow slotOf slotAt bytesOf countBelow part num put place _⊻_
 c2 =
-    retained-does bench benchShape 1 0 first 0 1 fresh room (at bench 0 0 (lit≤ tt) (lit≤ tt) refl) refl (lit≤ tt) 0x06 0 0
+    retained-does bench benchShape (to 1) 0 first 0 1 fresh room (at bench 0 0 (lit≤ tt) (lit≤ tt) refl) refl (lit≤ tt) 0x06 0 0
     (record { no-other = refl; mirror-is = refl; ndisc-is = refl; sec-is = refl }) 3 0 (lit≤ tt) (lit≤ tt) 0
     (record { takes = refl; slot-in = lit≤ tt; unused = refl })
 
 -- C3
 pub c3 :
-    Does afterC2 1 (ten 0xC2 0 1) [] room 4 (shelfOf 0 (left result) fresh two three) (result ++ replicate 4 0xAA)
-    × Does (shelfOf 0 (left result) fresh two three) 3 (ten 0xC1 0 1) result room 0 (shelfOf 0 (left result) fresh two parity) room
+    Does afterC2 (to 1) (ten 0xC2 0 1) [] room 4 (shelfOf 0 (left result) fresh two three) (result ++ replicate 4 0xAA)
+    × Does (shelfOf 0 (left result) fresh two three) (to 3) (ten 0xC1 0 1) result room 0 (shelfOf 0 (left result) fresh two parity) room
 unfolding cdbOf toBe driveOf newestOf bestOf better every leastBelow slotOf slotAt released lowered lowerOne part num put place _⊻_
 c3 = (
-  xdread-does afterC2 benchShape 1 0 (record { shelf = started .0; found = refl; present = refl }) 0 1 room (lit≤ tt) 0xC2 (codes-say .4) 0
+  xdread-does afterC2 benchShape (to 1) 0 (record { shelf = started .0; found = refl; present = refl }) 0 1 room (lit≤ tt) 0xC2 (codes-say .4) 0
       (record { answers = refl; slot-in = lit≤ tt; same-len = refl; limited = lit≤ tt }),
-  xpwrite-does (shelfOf 0 (left result) fresh two three) benchShape 3 2 (record { shelf = started .1; found = refl; present = refl }) 0 1 result room 0 refl
+  xpwrite-does (shelfOf 0 (left result) fresh two three) benchShape (to 3) 2 (record { shelf = started .1; found = refl; present = refl }) 0 1 result room 0 refl
       (at (shelfOf 0 (left result) fresh two three) 2 0 (lit≤ tt) (lit≤ tt) refl) refl 0xC1 (codes-say .2) (lit≤ tt),
 )
 
 -- C7
-pub c7 : Does (shelfOf 0 vacant zeros two three) 1 (listCdb 0xC3 0x18) (head 2 ++ sourceBytes 2 ++ sourceBytes 3) room 0 bench room
+pub c7 : Does (shelfOf 0 vacant zeros two three) (to 1) (listCdb 0xC3 0x18) (head 2 ++ sourceBytes 2 ++ sourceBytes 3) room 0 bench room
 unfolding cdbOf toBe driveOf leastBelow part num put place _⊻_ xorAll
 c7 =
     let m = shelfOf 0 vacant zeros two three in
-    rebuild-lists m benchShape 1 0 (record { shelf = started .2; found = refl; present = refl }) 0 1 (source 2 0 ∷ source 3 0 ∷ []) 0 []
-    (from m 1 0 (lit≤ tt) (lit≤ tt) refl 2 0 (lit≤ tt) refl (λ q. omega arith), (from m 2 0 (lit≤ tt) (lit≤ tt) refl 3 0 (lit≤ tt) refl (λ q. omega arith), tt)) refl
+    rebuild-lists m benchShape (to 1) 0 (record { shelf = started .2; found = refl; present = refl }) 0 1 (source 2 0 ∷ source 3 0 ∷ []) 0 []
+    (from m 1 0 (lit≤ tt) (lit≤ tt) refl (to 1) 2 0 (lit≤ tt) refl (λ q. omega arith), (from m 2 0 (lit≤ tt) (lit≤ tt) refl (to 1) 3 0 (lit≤ tt) refl (λ q. omega arith), tt)) refl
     (lit≤ tt) (lit≤ tt) (at m 0 0 (lit≤ tt) (lit≤ tt) refl) room 0 (together-byte 0 (inl refl)) 1 (inl refl) (inl refl)
 
 -- C8
-pub c8 : Does bench 2 (listCdb 0xC4 0x10) (head 1 ++ sourceBytes 3) room 0 (shelfOf 0 (holding 2 1 one) one two three) room
+pub c8 : Does bench (to 2) (listCdb 0xC4 0x10) (head 1 ++ sourceBytes 3) room 0 (shelfOf 0 (holding 2 1 one) one two three) room
 unfolding cdbOf toBe driveOf emptySlot leastBelow slotOf slotAt bytesOf countBelow part num put place _⊻_ xorAll
 c8 =
-    regenerate-lists bench benchShape 2 1 (record { shelf = bench-shelf; found = refl; present = refl }) 0 1 (source 3 0 ∷ []) 0 []
-    (from bench 2 0 (lit≤ tt) (lit≤ tt) refl 3 1 (lit≤ tt) refl (λ q. omega arith), tt) refl
+    regenerate-lists bench benchShape (to 2) 1 (record { shelf = bench-shelf; found = refl; present = refl }) 0 1 (source 3 0 ∷ []) 0 []
+    (from bench 2 0 (lit≤ tt) (lit≤ tt) refl (to 2) 3 1 (lit≤ tt) refl (λ q. omega arith), tt) refl
     (lit≤ tt) (lit≤ tt) (at bench 1 0 (lit≤ tt) (lit≤ tt) refl) room 0 (together-byte 0 (inl refl)) (lit≤ tt) 0
     (record { takes = refl; slot-in = lit≤ tt; unused = refl })
 
 -- WRITE to the same block
-pub write-case : Does bench 1 (ten 0x2A 0 1) fresh room 0 (shelfOf 0 vacant fresh two three) room
+pub write-case : Does bench (to 1) (ten 0x2A 0 1) fresh room 0 (shelfOf 0 vacant fresh two three) room
 unfolding cdbOf toBe part num put place
-write-case = write-does bench benchShape 1 0 first 0 1 fresh room 0 refl (at bench 0 0 (lit≤ tt) (lit≤ tt) refl) refl (lit≤ tt)
+write-case = write-does bench benchShape (to 1) 0 first 0 1 fresh room 0 refl (at bench 0 0 (lit≤ tt) (lit≤ tt) refl) refl (lit≤ tt)
 
 -- C10's READ that is GOOD, and C11
-pub c10 : Does bench 1 (ten 0x28 1 1) [] room 4 bench (zeros ++ replicate 4 0xAA)
+pub c10 : Does bench (to 1) (ten 0x28 1 1) [] room 4 bench (zeros ++ replicate 4 0xAA)
 unfolding cdbOf toBe part num put place
-c10 = read-does bench benchShape 1 0 first 1 1 room (lit≤ tt) 0 refl (lit≤ tt) (at bench 0 1 (lit≤ tt) (lit≤ tt) refl)
+c10 = read-does bench benchShape (to 1) 0 first 1 1 room (lit≤ tt) 0 refl (lit≤ tt) (at bench 0 1 (lit≤ tt) (lit≤ tt) refl)
 
-pub c11 : Does bench 1 (ten 0xC1 9 0) [] room 0 bench room
+pub c11 : Does bench (to 1) (ten 0xC1 9 0) [] room 0 bench room
 unfolding cdbOf toBe
-c11 = idle-does bench benchShape 1 0 first 9 (lit≤ tt) room 0xC1 0 XpWrite (codes-say .2) tt refl
+c11 = idle-does bench benchShape (to 1) 0 first 9 (lit≤ tt) room 0xC1 0 XpWrite (codes-say .2) tt refl
 
 -- the published codes: 50h leaves what C2 leaves, 53h hands its result out, with DISABLE WRITE too
 pub published :
-    Does bench 1 (ten 0x50 0 1) fresh room 0 afterC2 room
-    × Does bench 1 (ten 0x53 0 1) fresh room 4 (shelfOf 0 vacant fresh two three) (result ++ replicate 4 0xAA)
-    × Does bench 1 (tenWith 0x53 0x04 0 1) fresh room 4 bench (result ++ replicate 4 0xAA)
+    Does bench (to 1) (ten 0x50 0 1) fresh room 0 afterC2 room
+    × Does bench (to 1) (ten 0x53 0 1) fresh room 4 (shelfOf 0 vacant fresh two three) (result ++ replicate 4 0xAA)
+    × Does bench (to 1) (tenWith 0x53 0x04 0 1) fresh room 4 bench (result ++ replicate 4 0xAA)
 unfolding cdbOf toBe emptySlot leastBelow slotOf slotAt bytesOf countBelow part num put place _⊻_
 published =
     let b = at bench 0 0 (lit≤ tt) (lit≤ tt) refl in (
-      xdwrite-ten-does bench benchShape 1 0 first 0 1 fresh room b refl (lit≤ tt) 0 0 (record { no-other = refl; disable-is = refl }) 0
+      xdwrite-ten-does bench benchShape (to 1) 0 first 0 1 fresh room b refl (lit≤ tt) 0 0 (record { no-other = refl; disable-is = refl }) 0
           (record { takes = refl; slot-in = lit≤ tt; unused = refl }),
-      xdwriteread-writes bench benchShape 1 0 first 0 1 fresh room b refl (lit≤ tt) (lit≤ tt) 0 (record { no-other = refl; disable-is = refl }),
-      xdwriteread-keeps bench benchShape 1 0 first 0 1 fresh room b refl (lit≤ tt) (lit≤ tt) 4 (record { no-other = refl; disable-is = refl }),
+      xdwriteread-writes bench benchShape (to 1) 0 first 0 1 fresh room b refl (lit≤ tt) (lit≤ tt) 0 (record { no-other = refl; disable-is = refl }),
+      xdwriteread-keeps bench benchShape (to 1) 0 first 0 1 fresh room b refl (lit≤ tt) (lit≤ tt) 4 (record { no-other = refl; disable-is = refl }),
     )

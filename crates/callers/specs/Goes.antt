@@ -11,7 +11,8 @@ use Rattle.rules.specs.Rule.{first, first-append, AllPass, none-decides}
 use Rattle.folds.specs.Least.{index}
 use Rattle.geometry.specs.declared.Geometry.{Geometry}
 use Rattle.geometry.specs.Header.{geometryOf}
-use Rattle.drives.specs.Table.{driveOf}
+use Rattle.drives.specs.declared.Came.{Came}
+use Rattle.drives.specs.Table.{targetOf}
 use Rattle.image.specs.Shelf.{shelf-valid}
 use Rattle.sense.specs.declared.Answer.the-variants.{Good}
 use Rattle.command.specs.declared.Op.{Op}
@@ -34,25 +35,25 @@ x then y = (x, y)
 
 -- ---- a command
 
-module _ (m : List ℕ) (g : Geometry) (a t : ℕ) (h : Target m g a t) (c s r : List ℕ) where
+module _ (m : List ℕ) (g : Geometry) (a : Came) (t : ℕ) (h : Target m g a t) (c s r : List ℕ) where
   -- checks 4 to 11, and behind them the act
   abbrev fromFour : Op → Command → Decision
   fromFour o k = first Stop (commandChecks o m g t k s (length r)) (acts o m g t k s)
 
   -- checks 1 to 3 pass
-  pub from-four : (o : Op) (k : Command) → Says c o k → decided m a c s r ≡ fromFour o k
+  pub from-four : (o : Op) (k : Command) → Says a c o k → decided m a c s r ≡ fromFour o k
   unfolding decideOf
   from-four o k w =
       let by : Op → Geometry → ℕ → Command → Decision =
       (λ o x i k. first Stop (calls m a ++ cdbCalls o c ++ known m x i o ++ commandChecks o m x i k s (length r)) (acts o m x i k s)) in
-      let found : index (driveOf m (geometryOf m) a) ≡ t = ap (λ (x : Geometry). index (driveOf m x a)) (h .shelf .header) ∙ ap index (h .found) in
-      ap (λ (z : Op). by z (geometryOf m) (index (driveOf m (geometryOf m) a)) (commandOf z c)) (w .code)
-      ∙ ap (by o (geometryOf m) (index (driveOf m (geometryOf m) a))) (w .fields)
+      let found : index (targetOf m (geometryOf m) a) ≡ t = ap (λ (x : Geometry). index (targetOf m x a)) (h .shelf .header) ∙ ap index (h .found) in
+      ap (λ (z : Op). by z (geometryOf m) (index (targetOf m (geometryOf m) a)) (commandOf z a c)) (w .code)
+      ∙ ap (by o (geometryOf m) (index (targetOf m (geometryOf m) a))) (w .fields)
       ∙ ap₂ (λ (x : Geometry) (i : ℕ). by o x i k) (h .shelf .header) found
       ∙ first-append Stop (calls m a ++ cdbCalls o c ++ known m g t o) (commandChecks o m g t k s (length r)) (acts o m g t k s)
       ∙ none-decides Stop (calls m a ++ cdbCalls o c ++ known m g t o) (fromFour o k)
       (ap not (shelf-valid m g (h .shelf))
-      then (ap (λ (x : Geometry). isNothing (driveOf m x a)) (h .shelf .header) ∙ ap isNothing (h .found))
+      then (ap (λ (x : Geometry). isNothing (targetOf m x a)) (h .shelf .header) ∙ ap isNothing (h .found))
       then (ap (λ (n : ℕ). eqb n 0) (w .size) ∙ w .known)
       then ap₂ (λ (u v : Bool). not u && not v) (w .known) (eq-eqb (length c) (sizeOf o) (w .size))
       then w .known
@@ -60,7 +61,7 @@ module _ (m : List ℕ) (g : Geometry) (a t : ℕ) (h : Target m g a t) (c s r :
       then tt)
 
   -- every check passes
-  module _ (o : Op) (k : Command) (x : Act) (w : Says c o k) (p : AllPass (commandChecks o m g t k s (length r))) (e : acts o m g t k s ≡ Go x Good) where
+  module _ (o : Op) (k : Command) (x : Act) (w : Says a c o k) (p : AllPass (commandChecks o m g t k s (length r))) (e : acts o m g t k s ≡ Go x Good) where
     pub does : Does m a c s r (length (hands m g s x)) (leaves m g s x) (put r 0 (hands m g s x))
     does =
         went m a c s r x Good g _ _ _ _ (from-four o k w ∙ none-decides Stop (commandChecks o m g t k s (length r)) (acts o m g t k s) p ∙ e)

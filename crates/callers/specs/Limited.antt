@@ -12,6 +12,7 @@ use borrow.Author.Tests.{le-ltb, eq-eqb, ne-eqb}
 use Rattle.rules.specs.Rule.{rule, AllPass}
 use Rattle.geometry.specs.declared.Geometry.{Geometry}
 use Rattle.geometry.specs.Frame.{Framed}
+use Rattle.drives.specs.declared.Came.{Came}
 use Rattle.sense.specs.declared.Answer.the-variants.{Good, WrongCount}
 use Rattle.command.specs.declared.Op.{Op}
 use Rattle.command.specs.declared.Command.{Command}
@@ -20,7 +21,7 @@ use Rattle.command.specs.Lossless.{cdbOf}
 use Rattle.meaning.specs.declared.Seen.the-variants.{Dash, Cdb}
 use Rattle.meaning.specs.Checks.{Check, zeroFlags, zeroSix, zeroControl, aboveM, inRange}
 use Rattle.meaning.specs.Allowed.{Blocks, Filled, Limited}
-use Rattle.callers.specs.Bytes.{Says, tenSaying, Ten, ten-says}
+use Rattle.callers.specs.Bytes.{Says, tenSaying, anyhow, Ten, ten-says}
 use Rattle.callers.specs.Does.{blocks}
 use Rattle.callers.specs.Goes.{_then_}
 
@@ -30,9 +31,9 @@ upToData o g k s =
     zeroFlags o k ++ zeroSix k ++ aboveM 7 g k ++ zeroControl 9 k ++ rule 5 Dash (not (eqb (length s) (k .count * g .l))) WrongCount ∷ []
 
 -- they pass, and so does what follows them
-pub data-passes : (g : Geometry) (code : ℕ) (o : Op) (flags b n : ℕ) (s : List ℕ) → bitAnd flags (zeroBits o) ≡ 0 → n ≤ g .m → length s ≡ n * g .l
-    → (ys : List Check) → AllPass ys → AllPass (upToData o g (tenSaying code o flags b n) s ++ ys)
-data-passes g code o flags b n s z most e ys p =
+pub data-passes : (g : Geometry) (code : ℕ) (o : Op) (a : Came) (flags b n : ℕ) (s : List ℕ) → bitAnd flags (zeroBits o) ≡ 0 → n ≤ g .m → length s ≡ n * g .l
+    → (ys : List Check) → AllPass ys → AllPass (upToData o g (tenSaying code o a flags b n) s ++ ys)
+data-passes g code o a flags b n s z most e ys p =
     ap (λ (x : ℕ). not (eqb x 0)) z
     then refl
     then le-ltb (g .m) n most
@@ -45,12 +46,12 @@ abbrev pub upToRange : Op → Geometry → Command → List ℕ → List Check
 upToRange o g k s = upToData o g k s ++ rule 6 (Cdb 7) (eqb (k .count) 0) Good ∷ inRange (Cdb 2) g k
 
 module _ (m : List ℕ) (g : Geometry) (f : Framed m g) (t b n : ℕ) (s : List ℕ) (w : Blocks m g (blocks t b n)) (e : Filled g (blocks t b n) s)
-    (most : Limited g (blocks t b n)) (code : ℕ) (o : Op) (flags : ℕ) where
-  pub limited-says : opOf code ≡ o → Ten o → Says (cdbOf (tenSaying code o flags b n)) o (tenSaying code o flags b n)
+    (most : Limited g (blocks t b n)) (code : ℕ) (o : Op) (a : Came) (flags : ℕ) where
+  pub limited-says : opOf code ≡ o → Ten o → Says a (cdbOf (tenSaying code o anyhow flags b n)) o (tenSaying code o a flags b n)
   limited-says q i =
-      ten-says code o flags b n q i (omega (arith, f .placed .ranges .b-high, w .range .range-in)) (omega (arith, most, f .placed .ranges .m-high))
+      ten-says code o a flags b n q i (omega (arith, f .placed .ranges .b-high, w .range .range-in)) (omega (arith, most, f .placed .ranges .m-high))
 
-  pub limited-passes : bitAnd flags (zeroBits o) ≡ 0 → (ys : List Check) → AllPass ys → AllPass (upToRange o g (tenSaying code o flags b n) s ++ ys)
+  pub limited-passes : bitAnd flags (zeroBits o) ≡ 0 → (ys : List Check) → AllPass ys → AllPass (upToRange o g (tenSaying code o a flags b n) s ++ ys)
   limited-passes z ys p =
-      data-passes g code o flags b n s z most e (rule 6 (Cdb 7) (eqb n 0) Good ∷ inRange (Cdb 2) g (tenSaying code o flags b n) ++ ys)
+      data-passes g code o a flags b n s z most e (rule 6 (Cdb 7) (eqb n 0) Good ∷ inRange (Cdb 2) g (tenSaying code o a flags b n) ++ ys)
       (ne-eqb n 0 (λ q. omega (arith, w .some)) then le-ltb (g .b) (b + n) (w .range .range-in) then p)

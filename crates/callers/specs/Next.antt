@@ -11,6 +11,7 @@ use Rattle.octets.specs.PutPut.{part-put}
 use Rattle.geometry.specs.declared.Geometry.{Geometry}
 use Rattle.geometry.specs.Header.{place, blocksAt}
 use Rattle.geometry.specs.Places.{range-room}
+use Rattle.drives.specs.declared.Came.{Came}
 use Rattle.drives.specs.Front.{SameFront, failed-same, drive-same}
 use Rattle.drives.specs.Lookup.{drive-inside}
 use Rattle.image.specs.Shelf.{Shelf, shelf-frame}
@@ -28,7 +29,7 @@ use Rattle.callers.specs.Writes.{write-does}
 -- ---- the image up to the slots
 
 -- any step leaves header and drive table
-pub step-front : (m : List ℕ) (a : ℕ) (c s r : List ℕ) (g : Geometry) → Shelf m g → SameFront (stepImage m a c s r) m g
+pub step-front : (m : List ℕ) (a : Came) (c s r : List ℕ) (g : Geometry) → Shelf m g → SameFront (stepImage m a c s r) m g
 unfolding stepImage
 step-front m a c s r g h = by (decided m a c s r) refl
   where
@@ -40,20 +41,20 @@ step-front m a c s r g h = by (decided m a c s r) refl
 
 -- ---- the next command
 
-module _ (m : List ℕ) (g : Geometry) (a : ℕ) (c s r : List ℕ) (n : ℕ) (m′ r′ : List ℕ) (d : Does m a c s r n m′ r′) where
-  pub next : (e t : ℕ) → Target m g e t → Target m′ g e t
+module _ (m : List ℕ) (g : Geometry) (a : Came) (c s r : List ℕ) (n : ℕ) (m′ r′ : List ℕ) (d : Does m a c s r n m′ r′) where
+  pub next : (e : Came) (t : ℕ) → Target m g e t → Target m′ g e t
   next e t h =
       let p = shelf-frame m g (h .shelf) .placed in
       let f : SameFront m′ m g = subst (λ (x : List ℕ). SameFront x m g) (sym (d .image)) (step-front m a c s r g (h .shelf)) in
       record {
         shelf = subst (λ (x : List ℕ). Shelf x g) (sym (d .image)) (step-shelf m a c s r g (h .shelf));
-        found = drive-same m′ m g p f e ∙ h .found;
-        present = failed-same m′ m g p f t (drive-inside m g e t (h .found) .0) ∙ h .present;
+        found = drive-same m′ m g p f (e .target .0) ∙ h .found;
+        present = failed-same m′ m g p f t (drive-inside m g (e .target .0) t (h .found) .0) ∙ h .present;
       }
 
 -- ---- what was written is read
 
-module _ (m : List ℕ) (g : Geometry) (a t : ℕ) (h : Target m g a t) (b n : ℕ) (s r : List ℕ) (w : Blocks m g (blocks t b n))
+module _ (m : List ℕ) (g : Geometry) (a : Came) (t : ℕ) (h : Target m g a t) (b n : ℕ) (s r : List ℕ) (w : Blocks m g (blocks t b n))
     (e : Filled g (blocks t b n) s) (small : n < 65536) where
   abbrev after : List ℕ
   after = put m (place g t b) s

@@ -15,6 +15,7 @@ use Rattle.octets.specs.Operands.{xorAll}
 use Rattle.folds.specs.Each.{EachIs}
 use Rattle.geometry.specs.declared.Geometry.{Geometry}
 use Rattle.geometry.specs.Header.{place, blocksAt}
+use Rattle.drives.specs.declared.Came.{Came}
 use Rattle.image.specs.Shelf.{shelf-frame}
 use Rattle.command.specs.declared.Source.{Source}
 use Rattle.command.specs.Command.{sourceOf}
@@ -22,46 +23,46 @@ use Rattle.meaning.specs.Acts.{stored, slotStores, namedBlocks, sourcesFrom, ga
 use Rattle.meaning.specs.Allowed.{Blocks, Limited, Free}
 use Rattle.callers.specs.Bytes.{rebuildCdb, regenerateCdb}
 use Rattle.callers.specs.Lists.{source, listOf, list-headed, list-data}
-use Rattle.callers.specs.Does.{blocks, Does, Target}
+use Rattle.callers.specs.Does.{summing, blocks, Does, Target}
 use Rattle.callers.specs.Sources.{Names, read-as, list-sourced}
 use Rattle.callers.specs.Listed.{ListByte, HowLong}
 use Rattle.callers.specs.Rebuilds.{rebuild-does, regenerate-does}
 
 -- the operands: the sources' blocks, and with Int Data the data d
-abbrev pub operands : List ℕ → Geometry → ℕ → List Source → ℕ → List ℕ → List (List ℕ)
-operands m g n es int d = map (namedBlocks m g n) es ++ cond (eqb int 0) [] (d ∷ [])
+abbrev pub operands : List ℕ → Geometry → Came → ℕ → List Source → ℕ → List ℕ → List (List ℕ)
+operands m g a n es int d = map (namedBlocks m g a n) es ++ cond (eqb int 0) [] (d ∷ [])
 
 -- "A source listed twice at one block cancels.": zeros as long as its blocks are left of the two; in what order a list stands never matters
 -- (`xorAll-perm`)
-pub cancels : (m : List ℕ) (g : Geometry) (n : ℕ) (e : Source) (es : List Source) (int : ℕ) (d : List ℕ)
-    → xorAll (operands m g n (e ∷ e ∷ es) int d) ≡ replicate (length (namedBlocks m g n e)) 0 ⊻ xorAll (operands m g n es int d)
+pub cancels : (m : List ℕ) (g : Geometry) (a : Came) (n : ℕ) (e : Source) (es : List Source) (int : ℕ) (d : List ℕ)
+    → xorAll (operands m g a n (e ∷ e ∷ es) int d) ≡ replicate (length (namedBlocks m g a n e)) 0 ⊻ xorAll (operands m g a n es int d)
 unfolding xorAll
-cancels m g n e es int d =
-    let x = namedBlocks m g n e in
-    let rest = xorAll (operands m g n es int d) in
+cancels m g a n e es int d =
+    let x = namedBlocks m g a n e in
+    let rest = xorAll (operands m g a n es int d) in
     sym (xor-regroups x x rest) ∙ ap (λ (z : List ℕ). z ⊻ rest) (xor-itself x)
 
-from-sources : (m : List ℕ) (g : Geometry) (n : ℕ) (s : List ℕ) (es : List Source) (i : ℕ)
-    → ((j : ℕ) → j < length es → sourceOf s (i + j) ≡ getD es j (source 0 0)) → sourcesFrom m g s n i (length es) ≡ map (namedBlocks m g n) es
+from-sources : (m : List ℕ) (g : Geometry) (a : Came) (n : ℕ) (s : List ℕ) (es : List Source) (i : ℕ)
+    → ((j : ℕ) → j < length es → sourceOf s (i + j) ≡ getD es j (source 0 0)) → sourcesFrom m g a s n i (length es) ≡ map (namedBlocks m g a n) es
 unfolding sourcesFrom
-from-sources m g n s [] i h = refl
-from-sources m g n s (e ∷ es) i h =
+from-sources m g a n s [] i h = refl
+from-sources m g a n s (e ∷ es) i h =
     ap₂ (λ (x : List ℕ) (xs : List (List ℕ)). x ∷ xs)
-    (ap (namedBlocks m g n) (ap (sourceOf s) (sym (add-zero i)) ∙ h 0 (omega arith)))
-    (from-sources m g n s es (i + 1) (λ j l. let e : i + 1 + j ≡ i + suc j = omega arith in rw e (h (suc j) (omega arith))))
+    (ap (namedBlocks m g a n) (ap (sourceOf s) (sym (add-zero i)) ∙ h 0 (omega arith)))
+    (from-sources m g a n s es (i + 1) (λ j l. let e : i + 1 + j ≡ i + suc j = omega arith in rw e (h (suc j) (omega arith))))
 
-module _ (m : List ℕ) (g : Geometry) (a t : ℕ) (h : Target m g a t) (b n : ℕ) (es : List Source) (int : ℕ) (d : List ℕ)
-    (each : EachIs (Names m g (blocks t b n)) es) (long : length d ≡ cond (eqb int 0) 0 (n * g .l)) where
+module _ (m : List ℕ) (g : Geometry) (a : Came) (t : ℕ) (h : Target m g a t) (b n : ℕ) (es : List Source) (int : ℕ) (d : List ℕ)
+    (each : EachIs (Names m g a (blocks t b n)) es) (long : length d ≡ cond (eqb int 0) 0 (n * g .l)) where
   data-is : (u : Bool) → length d ≡ cond u 0 (n * g .l)
       → cond u [] (part (listOf b es d) (8 + 8 * length es) (n * g .l) ∷ []) ≡ cond u [] (d ∷ [])
   data-is true e = refl
   data-is false e = ap (λ (x : List ℕ). x ∷ []) (ap (part (listOf b es d) (8 + 8 * length es)) (sym e) ∙ list-data b es d)
 
-  pub gathered-is : gathered m g (listOf b es d) n (length es) int ≡ xorAll (operands m g n es int d)
+  pub gathered-is : gathered m g (listOf b es d) n (summing a int) ≡ xorAll (operands m g a n es int d)
   unfolding gathered
   gathered-is =
       ap₂ (λ (xs ys : List (List ℕ)). xorAll (xs ++ ys))
-      (from-sources m g n (listOf b es d) es 0 (λ j l. let e : 0 + j ≡ j = omega arith in rw e (read-as m g (h .shelf) (blocks t b n) b es d each j l)))
+      (from-sources m g a n (listOf b es d) es 0 (λ j l. let e : 0 + j ≡ j = omega arith in rw e (read-as m g (h .shelf) a (blocks t b n) b es d each j l)))
       (data-is (eqb int 0) long)
 
   -- one source at least, and so many that a byte counts them
@@ -71,18 +72,18 @@ module _ (m : List ℕ) (g : Geometry) (a t : ℕ) (h : Target m g a t) (b n : �
 
     -- REBUILD: the XOR of the operands is written to the target
     pub rebuild-lists : (count : ℕ) → HowLong (g .b) b n count → (int ≡ 0) ⊎ (count ≡ n)
-        → Does m a (rebuildCdb flags count (length es)) (listOf b es d) r 0 (put m (place g t b) (xorAll (operands m g n es int d))) r
+        → Does m a (rebuildCdb flags count (length es)) (listOf b es d) r 0 (put m (place g t b) (xorAll (operands m g a n es int d))) r
     rebuild-lists count how with =
         subst (λ (x : List ℕ). Does m a (rebuildCdb flags count (length es)) (listOf b es d) r 0 (put m (place g t b) x) r) gathered-is
         (rebuild-does m g a t h b n (length es) flags int (listOf b es d) r z (list-headed b es d small) few w
-        (list-sourced m g (h .shelf) (blocks t b n) b es d each int one long) count how with)
+        (list-sourced m g (h .shelf) a (blocks t b n) b es d each int one long) count how with)
 
     -- REGENERATE: the XOR of the target's own blocks and the operands is retained in slot i
     pub regenerate-lists : Limited g (blocks t b n) → (i : ℕ) → Free m g i
         → Does m a (regenerateCdb flags n (length es)) (listOf b es d) r 0
-        (stored m (slotStores m g i 2 (blocks t b n) (blocksAt m g t b n ⊻ xorAll (operands m g n es int d)))) r
+        (stored m (slotStores m g i 2 (blocks t b n) (blocksAt m g t b n ⊻ xorAll (operands m g a n es int d)))) r
     regenerate-lists most i v =
         subst (λ (x : List ℕ). Does m a (regenerateCdb flags n (length es)) (listOf b es d) r 0
         (stored m (slotStores m g i 2 (blocks t b n) (blocksAt m g t b n ⊻ x))) r) gathered-is
         (regenerate-does m g a t h b n (length es) flags int (listOf b es d) r z (list-headed b es d small) few w
-        (list-sourced m g (h .shelf) (blocks t b n) b es d each int one long) most i v)
+        (list-sourced m g (h .shelf) a (blocks t b n) b es d each int one long) most i v)

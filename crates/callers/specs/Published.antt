@@ -12,6 +12,7 @@ use Rattle.folds.specs.Least.{index}
 use Rattle.geometry.specs.declared.Geometry.{Geometry}
 use Rattle.geometry.specs.Header.{place, blocksAt}
 use Rattle.geometry.specs.Frame.{Framed}
+use Rattle.drives.specs.declared.Came.{Came}
 use Rattle.image.specs.Shelf.{shelf-frame}
 use Rattle.sense.specs.declared.Answer.the-variants.{Good}
 use Rattle.command.specs.declared.Op.the-variants.{XdWriteTen, XdWriteRead}
@@ -31,7 +32,7 @@ pub record DisableByte (flags disable : ℕ) : Type 0 where
   pub no-other : bitAnd flags 0xE3 ≡ 0
   pub disable-is : flags / 4 % 2 ≡ disable
 
-module _ (m : List ℕ) (g : Geometry) (a t : ℕ) (h : Target m g a t) (b n : ℕ) (s r : List ℕ)
+module _ (m : List ℕ) (g : Geometry) (a : Came) (t : ℕ) (h : Target m g a t) (b n : ℕ) (s r : List ℕ)
     (w : Blocks m g (blocks t b n)) (e : Filled g (blocks t b n) s) (most : Limited g (blocks t b n))
     (flags disable : ℕ) (z : DisableByte flags disable) where
   f : Framed m g
@@ -42,10 +43,10 @@ module _ (m : List ℕ) (g : Geometry) (a t : ℕ) (h : Target m g a t) (b n : �
       → Does m a (xdwriteTenCdb flags b n) s r 0
       (stored m (dataStores g (blocks t b n) disable s ++ slotStores m g i 1 (blocks t b n) (resultOf m g (blocks t b n) 0 s))) r
   xdwrite-ten-does i v =
-      let k = tenSaying 0x50 XdWriteTen flags b n in
+      let k = tenSaying 0x50 XdWriteTen a flags b n in
       does-quietly m g a t h (xdwriteTenCdb flags b n) s r XdWriteTen k (Retain (blocks t b n) i 0 disable)
-      (limited-says m g f t b n s w e most 0x50 XdWriteTen flags (codes-say .6) tt)
-      (limited-passes m g f t b n s w e most 0x50 XdWriteTen flags (z .no-other) (busy XdWriteTen m g k) (ap isNothing (v .takes) then tt))
+      (limited-says m g f t b n s w e most 0x50 XdWriteTen a flags (codes-say .6) tt)
+      (limited-passes m g f t b n s w e most 0x50 XdWriteTen a flags (z .no-other) (busy XdWriteTen m g k) (ap isNothing (v .takes) then tt))
       (ap₂ (λ (x : Found) (y : ℕ). Go (Retain (blocks t b n) (index x) 0 y) Good) (v .takes) (z .disable-is))
       refl
 
@@ -53,17 +54,17 @@ module _ (m : List ℕ) (g : Geometry) (a t : ℕ) (h : Target m g a t) (b n : �
   pub xdwriteread-does : Roomy g (blocks t b n) (length r)
       → Does m a (xdwritereadCdb flags b n) s r (n * g .l) (stored m (dataStores g (blocks t b n) disable s)) (put r 0 (s ⊻ blocksAt m g t b n))
   xdwriteread-does fits =
-      let k = tenSaying 0x53 XdWriteRead flags b n in
+      let k = tenSaying 0x53 XdWriteRead a flags b n in
       let x = stored m (dataStores g (blocks t b n) disable s) in
       subst (λ (j : ℕ). Does m a (xdwritereadCdb flags b n) s r j x (put r 0 (s ⊻ blocksAt m g t b n))) (length-result m g f (blocks t b n) w 0 s e)
       (does m g a t h (xdwritereadCdb flags b n) s r XdWriteRead k (ToXdWriteRead (blocks t b n) disable)
-      (limited-says m g f t b n s w e most 0x53 XdWriteRead flags (codes-say .7) tt)
-      (limited-passes m g f t b n s w e most 0x53 XdWriteRead flags (z .no-other) (roomRule g k (length r))
+      (limited-says m g f t b n s w e most 0x53 XdWriteRead a flags (codes-say .7) tt)
+      (limited-passes m g f t b n s w e most 0x53 XdWriteRead a flags (z .no-other) (roomRule g k (length r))
       (le-ltb (length r) (n * g .l) fits then tt))
       (ap (λ (y : ℕ). Go (ToXdWriteRead (blocks t b n) y) Good) (z .disable-is)))
 
 -- without DISABLE WRITE the data are the blocks, and with it nothing is written
-module _ (m : List ℕ) (g : Geometry) (a t : ℕ) (h : Target m g a t) (b n : ℕ) (s r : List ℕ)
+module _ (m : List ℕ) (g : Geometry) (a : Came) (t : ℕ) (h : Target m g a t) (b n : ℕ) (s r : List ℕ)
     (w : Blocks m g (blocks t b n)) (e : Filled g (blocks t b n) s) (most : Limited g (blocks t b n)) (fits : Roomy g (blocks t b n) (length r)) where
   pub xdwriteread-writes : (flags : ℕ) → DisableByte flags 0
       → Does m a (xdwritereadCdb flags b n) s r (n * g .l) (put m (place g t b) s) (put r 0 (s ⊻ blocksAt m g t b n))

@@ -17,6 +17,7 @@ use Rattle.geometry.specs.declared.Geometry.{Geometry}
 use Rattle.geometry.specs.Header.{dataAt, blocksAt}
 use Rattle.geometry.specs.Frame.{Framed}
 use Rattle.geometry.specs.Places.{range-long, data-in}
+use Rattle.drives.specs.declared.Came.{Came}
 use Rattle.slots.specs.Record.{slotOf}
 use Rattle.slots.specs.Change.{released}
 use Rattle.results.specs.Best.{newest-at, newest-used}
@@ -32,7 +33,7 @@ use Rattle.callers.specs.Bytes.{tenSaying, readCdb, xdreadCdb, codes-say
 use Rattle.callers.specs.Does.{blocks, Does, Target}
 use Rattle.callers.specs.Goes.{_then_, does}
 
-module _ (m : List ℕ) (g : Geometry) (a t : ℕ) (h : Target m g a t) (b n : ℕ) (r : List ℕ) (fits : Roomy g (blocks t b n) (length r)) where
+module _ (m : List ℕ) (g : Geometry) (a : Came) (t : ℕ) (h : Target m g a t) (b n : ℕ) (r : List ℕ) (fits : Roomy g (blocks t b n) (length r)) where
   f : Framed m g
   f = shelf-frame m g (h .shelf)
 
@@ -43,8 +44,8 @@ module _ (m : List ℕ) (g : Geometry) (a t : ℕ) (h : Target m g a t) (b n : �
       let most = f .placed .ranges .b-high in
       subst (λ (j : ℕ). Does m a (readCdb flags b n) [] r j m (put r 0 (blocksAt m g t b n)))
       (range-long m g t b n f (w .range))
-      (does m g a t h (readCdb flags b n) [] r Read (tenSaying 0x28 Read flags b n) (ToRead (blocks t b n))
-      (ten-says 0x28 Read flags b n (codes-say .0) tt (omega (arith, w .range .range-in)) small)
+      (does m g a t h (readCdb flags b n) [] r Read (tenSaying 0x28 Read a flags b n) (ToRead (blocks t b n))
+      (ten-says 0x28 Read a flags b n (codes-say .0) tt (omega (arith, w .range .range-in)) small)
       (ap (λ (x : ℕ). not (eqb x 0)) z
       then refl
       then refl
@@ -66,8 +67,8 @@ module _ (m : List ℕ) (g : Geometry) (a t : ℕ) (h : Target m g a t) (b n : �
       let at : (slotOf m g i .block .0) ≡ b = eqb-true _ _ (holds _ 2 (q .asked)) in
       subst (λ (j : ℕ). Does m a (xdreadCdb code b n) [] r j (released m g i) (put r 0 (part m (dataAt g i) (n * g .l))))
       (length-part m (dataAt g i) (n * g .l) (data-in m g i n f (w .slot-in) (w .limited)))
-      (does m g a t h (xdreadCdb code b n) [] r XdRead (tenSaying code XdRead 0 b n) (ToXdRead (blocks t b n) i)
-      (ten-says code XdRead 0 b n said tt (omega (arith, u .range-in)) (omega (arith, w .limited)))
+      (does m g a t h (xdreadCdb code b n) [] r XdRead (tenSaying code XdRead a 0 b n) (ToXdRead (blocks t b n) i)
+      (ten-says code XdRead a 0 b n said tt (omega (arith, u .range-in)) (omega (arith, w .limited)))
       (refl
       then refl
       then refl

@@ -13,6 +13,7 @@ use Rattle.folds.specs.declared.Found.{Found}
 use Rattle.folds.specs.Least.{index}
 use Rattle.geometry.specs.declared.Geometry.{Geometry}
 use Rattle.geometry.specs.Header.{place, blocksAt}
+use Rattle.drives.specs.declared.Came.{Came}
 use Rattle.slots.specs.Find.{emptySlot}
 use Rattle.image.specs.Shelf.{shelf-frame}
 use Rattle.sense.specs.declared.Answer.the-variants.{Good}
@@ -25,14 +26,14 @@ use Rattle.meaning.specs.Checks.{isNothing, busy}
 use Rattle.meaning.specs.Allowed.{Blocks, Sourced, Limited, Free}
 use Rattle.callers.specs.Bytes.{listedSaying, rebuildCdb, regenerateCdb, rebuild-says, regenerate-says}
 use Rattle.callers.specs.Lists.{Headed}
-use Rattle.callers.specs.Does.{blocks, Does, Target}
+use Rattle.callers.specs.Does.{summing, blocks, Does, Target}
 use Rattle.callers.specs.Goes.{_then_, does-quietly}
 use Rattle.callers.specs.Listed.{ListByte, HowLong, resolves, span-is, all-pass}
 
 -- n blocks of the target from block b on, by a list s of so many sources, which a byte counts
-module _ (m : List ℕ) (g : Geometry) (a t : ℕ) (h : Target m g a t) (b n sources flags int : ℕ) (s r : List ℕ)
+module _ (m : List ℕ) (g : Geometry) (a : Came) (t : ℕ) (h : Target m g a t) (b n sources flags int : ℕ) (s r : List ℕ)
     (z : ListByte flags int) (hd : Headed s sources b) (few : sources < 256)
-    (w : Blocks m g (blocks t b n)) (v : Sourced m g (blocks t b n) sources int s) where
+    (w : Blocks m g (blocks t b n)) (v : Sourced m g (blocks t b n) (summing a int) s) where
   most : g .b ≤ 65536
   most = shelf-frame m g (h .shelf) .placed .ranges .b-high
 
@@ -46,29 +47,28 @@ module _ (m : List ℕ) (g : Geometry) (a t : ℕ) (h : Target m g a t) (b n sou
 
   -- REBUILD: the XOR of the sources and the intermediate data is written to the target; with Int Data the length is n itself
   pub rebuild-does : (count : ℕ) → HowLong (g .b) b n count → (int ≡ 0) ⊎ (count ≡ n)
-      → Does m a (rebuildCdb flags count sources) s r 0 (put m (place g t b) (gathered m g s n sources int)) r
+      → Does m a (rebuildCdb flags count sources) s r 0 (put m (place g t b) (gathered m g s n (summing a int))) r
   rebuild-does count long with =
       let q = resolves (g .b) b n count (w .some) (w .range .range-in) most long in
       let e = data-length count with in
       let end = (ap (λ (x : ℕ). not (eqb x 0) && eqb count 0xFFFFFFFF) (z .int-is) ∙ not-last count with) in
-      does-quietly m g a t h (rebuildCdb flags count sources) s r Rebuild (listedSaying 0xC3 Rebuild flags count (8 + 8 * sources)) (ToRebuild (blocks t b n) sources int)
-      (rebuild-says flags count sources (q .small) (omega arith))
-      (all-pass m g t b n count sources flags int s z hd q e w v 0xC3 Rebuild refl _ [] end tt)
-      (ap₂ (λ (x : Span) (y : ℕ). Go (ToRebuild x y (flags / 4 % 2)) Good) (span-is m g t b n count sources flags int s z hd q e w v 0xC3 Rebuild refl) (hd .number)
-      ∙ ap (λ (x : ℕ). Go (ToRebuild (blocks t b n) sources x) Good) (z .int-is))
+      does-quietly m g a t h (rebuildCdb flags count sources) s r Rebuild (listedSaying 0xC3 Rebuild a flags count (8 + 8 * sources)) (ToRebuild (blocks t b n) (summing a int))
+      (rebuild-says a flags count sources (q .small) (omega arith))
+      (all-pass m g a t b n count sources flags int s z hd q e w v 0xC3 Rebuild refl _ [] end tt)
+      (ap₂ (λ (x : Span) (y : ℕ). Go (ToRebuild x (summing a y)) Good) (span-is m g a t b n count sources flags int s z hd q e w v 0xC3 Rebuild refl) (z .int-is))
       refl
 
   -- REGENERATE: that and the target's own blocks, XORed, are retained in slot i
   pub regenerate-does : Limited g (blocks t b n) → (i : ℕ) → Free m g i
       → Does m a (regenerateCdb flags n sources) s r 0
-      (stored m (slotStores m g i 2 (blocks t b n) (blocksAt m g t b n ⊻ gathered m g s n sources int))) r
+      (stored m (slotStores m g i 2 (blocks t b n) (blocksAt m g t b n ⊻ gathered m g s n (summing a int)))) r
   regenerate-does small i u =
       let q = resolves (g .b) b n n (w .some) (w .range .range-in) most (inl refl) in
       let e : (eqb int 0 ≡ false → n ≡ n) = (λ x. refl) in
-      does-quietly m g a t h (regenerateCdb flags n sources) s r Regenerate (listedSaying 0xC4 Regenerate flags n (8 + 8 * sources)) (ToRegenerate (blocks t b n) sources int i)
-      (regenerate-says flags n sources (q .small) (omega arith))
-      (all-pass m g t b n n sources flags int s z hd q e w v 0xC4 Regenerate refl (ltb (g .m) n) (busy Regenerate m g (listedSaying 0xC4 Regenerate flags n (8 + 8 * sources)))
+      does-quietly m g a t h (regenerateCdb flags n sources) s r Regenerate (listedSaying 0xC4 Regenerate a flags n (8 + 8 * sources)) (ToRegenerate (blocks t b n) (summing a int) i)
+      (regenerate-says a flags n sources (q .small) (omega arith))
+      (all-pass m g a t b n n sources flags int s z hd q e w v 0xC4 Regenerate refl (ltb (g .m) n) (busy Regenerate m g (listedSaying 0xC4 Regenerate a flags n (8 + 8 * sources)))
       (le-ltb (g .m) n small) (ap isNothing (u .takes) then tt))
-      (ap₂ (λ (x : Span) (y : ℕ). Go (ToRegenerate x y (flags / 4 % 2) (index (emptySlot m g))) Good) (span-is m g t b n n sources flags int s z hd q e w v 0xC4 Regenerate refl) (hd .number)
-      ∙ ap₂ (λ (x : ℕ) (y : Found). Go (ToRegenerate (blocks t b n) sources x (index y)) Good) (z .int-is) (u .takes))
+      (ap (λ (x : Span). Go (ToRegenerate x (summing a (flags / 4 % 2)) (index (emptySlot m g))) Good) (span-is m g a t b n n sources flags int s z hd q e w v 0xC4 Regenerate refl)
+      ∙ ap₂ (λ (x : ℕ) (y : Found). Go (ToRegenerate (blocks t b n) (summing a x) (index y)) Good) (z .int-is) (u .takes))
       refl

@@ -13,6 +13,7 @@ use Rattle.folds.specs.declared.Found.{Found}
 use Rattle.folds.specs.declared.Found.the-variants.{At, Nothing}
 use Rattle.geometry.specs.declared.Geometry.{Geometry}
 use Rattle.geometry.specs.Header.{dataAt, blocksAt}
+use Rattle.drives.specs.declared.Came.{Came}
 use Rattle.slots.specs.Find.{emptySlot, newestOf}
 use Rattle.slots.specs.Change.{released}
 use Rattle.results.specs.First.{firstOf, sansFirst}
@@ -31,7 +32,7 @@ use Rattle.demands_one_two.specs.Effects.{resultIn}
 use Rattle.demands_one_two.specs.Retained.{results-after}
 use Rattle.callers.specs.Bytes.{xdreadCdb, xdwriteTenCdb, xdwriteCdb, regenerateCdb}
 use Rattle.callers.specs.Lists.{Headed}
-use Rattle.callers.specs.Does.{blocks, Does, Target}
+use Rattle.callers.specs.Does.{summing, blocks, Does, Target}
 use Rattle.callers.specs.Reads.{xdread-does}
 use Rattle.callers.specs.Xdwrites.{XdwriteByte, retained-does}
 use Rattle.callers.specs.Published.{DisableByte, xdwrite-ten-does}
@@ -52,12 +53,12 @@ free-left m g h l = by (emptySlot m g) refl
     by Nothing e = absurd (omega (arith, full m g (h .slots-ok) e))
 
 -- the call leaves what `after` says for some slot, and z in front of the results
-pub record Retains (m : List ℕ) (g : Geometry) (a : ℕ) (c s r : List ℕ) (after : ℕ → List ℕ) (z : Result) : Type 0 where
+pub record Retains (m : List ℕ) (g : Geometry) (a : Came) (c s r : List ℕ) (after : ℕ → List ℕ) (z : Result) : Type 0 where
   pub slot : ℕ
   pub does : Does m a c s r 0 (after slot) r
   pub newest : results (after slot) g ≡ z ∷ results m g
 
-module _ (m : List ℕ) (g : Geometry) (a t : ℕ) (h : Target m g a t) (b n : ℕ) (s r : List ℕ) (w : Blocks m g (blocks t b n))
+module _ (m : List ℕ) (g : Geometry) (a : Came) (t : ℕ) (h : Target m g a t) (b n : ℕ) (s r : List ℕ) (w : Blocks m g (blocks t b n))
     (most : Limited g (blocks t b n)) (more : length (results m g) < g .s) where
   abbrev x : Span
   x = blocks t b n
@@ -96,15 +97,15 @@ module _ (m : List ℕ) (g : Geometry) (a t : ℕ) (h : Target m g a t) (b n : �
   -- "REGENERATE adds the target's own blocks and retains the XOR."
   module _ (sources flags int : ℕ) where
     abbrev sum : List ℕ
-    sum = blocksAt m g t b n ⊻ gathered m g s n sources int
+    sum = blocksAt m g t b n ⊻ gathered m g s n (summing a int)
 
-    pub regenerate-retains : ListByte flags int → Headed s sources b → sources < 256 → Sourced m g x sources int s
+    pub regenerate-retains : ListByte flags int → Headed s sources b → sources < 256 → Sourced m g x (summing a int) s
         → Retains m g a (regenerateCdb flags n sources) s r (λ i. stored m (slotStores m g i 2 x sum)) (resultIn 2 x sum)
     regenerate-retains z hd few v =
         record {
           slot = f .slot;
           does = regenerate-does m g a t h b n sources flags int s r z hd few w v most (f .slot) (f .free);
-          newest = results-after m g (h .shelf) s 0 (Regenerate x sources int (f .slot)) (w, v, most, f .free);
+          newest = results-after m g (h .shelf) s 0 (Regenerate x (summing a int) (f .slot)) (w, v, most, f .free);
         }
 
 -- ---- the newest at a drive and block
@@ -126,12 +127,12 @@ module _ (m : List ℕ) (g : Geometry) (t b : ℕ) (z : Result) where
       by Nothing e = absurd (Option·none-ne-some z (sym (newest-missing m g (h .slots-ok) t b e) ∙ q))
 
 -- XDREAD, by its code, hands out the result z, and it alone is no longer retained
-pub record Handed (m : List ℕ) (g : Geometry) (code a t b : ℕ) (z : Result) (r : List ℕ) : Type 0 where
+pub record Handed (m : List ℕ) (g : Geometry) (code : ℕ) (a : Came) (t b : ℕ) (z : Result) (r : List ℕ) : Type 0 where
   pub slot : ℕ
   pub does : Does m a (xdreadCdb code b (z .len)) [] r (z .len * g .l) (released m g slot) (put r 0 (z .bytes))
   pub others : results (released m g slot) g ≡ sansFirst (answers t b) (results m g)
 
-pub xdread-hands : (m : List ℕ) (g : Geometry) (code a t : ℕ) → opOf code ≡ XdRead → Target m g a t → (b : ℕ) (z : Result) → firstOf (answers t b) (results m g) ≡ some z
+pub xdread-hands : (m : List ℕ) (g : Geometry) (code : ℕ) (a : Came) (t : ℕ) → opOf code ≡ XdRead → Target m g a t → (b : ℕ) (z : Result) → firstOf (answers t b) (results m g) ≡ some z
     → (r : List ℕ) → Roomy g (blocks t b (z .len)) (length r) → Handed m g code a t b z r
 unfolding resultAt
 xdread-hands m g code a t said h b z q r fits =

@@ -13,6 +13,7 @@ use Rattle.octets.specs.Xor.{_⊻_}
 use Rattle.geometry.specs.declared.Geometry.{Geometry}
 use Rattle.geometry.specs.Header.{place, blocksAt}
 use Rattle.geometry.specs.Frame.{Framed}
+use Rattle.drives.specs.declared.Came.{Came}
 use Rattle.image.specs.Shelf.{shelf-frame}
 use Rattle.command.specs.declared.Op.the-variants.{XpWrite, Write}
 use Rattle.command.specs.Command.{opOf}
@@ -24,7 +25,7 @@ use Rattle.callers.specs.Goes.{_then_, does-quietly}
 use Rattle.callers.specs.Limited.{limited-says, limited-passes}
 
 -- of byte 1 only "bit 4 DPO, 3 FUA" may be set
-module _ (m : List ℕ) (g : Geometry) (a t : ℕ) (h : Target m g a t) (b n : ℕ) (s r : List ℕ) (flags : ℕ) (z : bitAnd flags 0xE7 ≡ 0)
+module _ (m : List ℕ) (g : Geometry) (a : Came) (t : ℕ) (h : Target m g a t) (b n : ℕ) (s r : List ℕ) (flags : ℕ) (z : bitAnd flags 0xE7 ≡ 0)
     (w : Blocks m g (blocks t b n)) (e : Filled g (blocks t b n) s) where
   f : Framed m g
   f = shelf-frame m g (h .shelf)
@@ -36,8 +37,8 @@ module _ (m : List ℕ) (g : Geometry) (a t : ℕ) (h : Target m g a t) (b n : �
   -- WRITE: the data are the blocks
   pub write-does : n < 65536 → Does m a (writeCdb flags b n) s r 0 (put m (place g t b) s) r
   write-does small =
-      does-quietly m g a t h (writeCdb flags b n) s r Write (tenSaying 0x2A Write flags b n) (ToWrite (blocks t b n))
-      (ten-says 0x2A Write flags b n (codes-say .1) tt low small)
+      does-quietly m g a t h (writeCdb flags b n) s r Write (tenSaying 0x2A Write a flags b n) (ToWrite (blocks t b n))
+      (ten-says 0x2A Write a flags b n (codes-say .1) tt low small)
       (ap (λ (x : ℕ). not (eqb x 0)) z
       then refl
       then refl
@@ -51,7 +52,7 @@ module _ (m : List ℕ) (g : Geometry) (a t : ℕ) (h : Target m g a t) (b n : �
   pub xpwrite-does : (code : ℕ) → opOf code ≡ XpWrite → Limited g (blocks t b n)
       → Does m a (xpwriteCdb code flags b n) s r 0 (put m (place g t b) (blocksAt m g t b n ⊻ s)) r
   xpwrite-does code q most =
-      does-quietly m g a t h (xpwriteCdb code flags b n) s r XpWrite (tenSaying code XpWrite flags b n) (ToXpWrite (blocks t b n))
-      (limited-says m g f t b n s w e most code XpWrite flags q tt)
-      (limited-passes m g f t b n s w e most code XpWrite flags z [] tt)
+      does-quietly m g a t h (xpwriteCdb code flags b n) s r XpWrite (tenSaying code XpWrite a flags b n) (ToXpWrite (blocks t b n))
+      (limited-says m g f t b n s w e most code XpWrite a flags q tt)
+      (limited-passes m g f t b n s w e most code XpWrite a flags z [] tt)
       refl refl

@@ -17,7 +17,8 @@ use Rattle.folds.specs.Least.{index}
 use Rattle.geometry.specs.declared.Geometry.{Geometry}
 use Rattle.geometry.specs.Header.{place, blocksAt}
 use Rattle.geometry.specs.Frame.{Framed}
-use Rattle.drives.specs.Table.{driveOf, failed}
+use Rattle.drives.specs.declared.Came.{Came}
+use Rattle.drives.specs.Table.{secondaryOf, failed}
 use Rattle.slots.specs.Find.{emptySlot}
 use Rattle.image.specs.Shelf.{shelf-frame}
 use Rattle.sense.specs.declared.Answer.the-variants.{Good}
@@ -43,7 +44,7 @@ pub together-not : (sec : ℕ) → Together sec → (eqb sec 1 ≡ false) × (eq
 together-not sec (inl e) = rw e (refl, refl)
 together-not sec (inr e) = rw e (refl, refl)
 
-module _ (m : List ℕ) (g : Geometry) (a t : ℕ) (h : Target m g a t) (b n : ℕ) (s r : List ℕ)
+module _ (m : List ℕ) (g : Geometry) (a : Came) (t : ℕ) (h : Target m g a t) (b n : ℕ) (s r : List ℕ)
     (w : Blocks m g (blocks t b n)) (e : Filled g (blocks t b n) s) (most : Limited g (blocks t b n)) where
   f : Framed m g
   f = shelf-frame m g (h .shelf)
@@ -57,7 +58,7 @@ module _ (m : List ℕ) (g : Geometry) (a t : ℕ) (h : Target m g a t) (b n : �
 
   -- ---- "Sec Ctl 00 or 10: the result goes to the secondary at its block": address a′, drive u, block c
 
-  module _ (flags mirror sec : ℕ) (z : XdwriteByte flags mirror 0 sec) (both : Together sec) (a′ u c : ℕ) (found : driveOf m g a′ ≡ At u) (small : a′ < 16777216)
+  module _ (flags mirror sec : ℕ) (z : XdwriteByte flags mirror 0 sec) (both : Together sec) (a′ u c : ℕ) (found : secondaryOf m g a a′ ≡ At u) (small : a′ < 16777216)
       (v : Blocks m g (blocks u c n)) (other : t ≡ u → ⊥) where
     not-one : eqb (flags / 2 % 4) 1 ≡ false
     not-one = ap (λ (x : ℕ). eqb x 1) (z .sec-is) ∙ together-not sec both .0
@@ -71,8 +72,8 @@ module _ (m : List ℕ) (g : Geometry) (a t : ℕ) (h : Target m g a t) (b n : �
 
     pub coupled-does : Does m a (xdwriteCdb flags b n a′ c) s r 0 (stored m (coupled m g (blocks t b n) (blocks u c n) mirror s)) r
     coupled-does =
-        does-quietly m g a t h (xdwriteCdb flags b n a′ c) s r XdWrite (sixteenSaying 0xC0 XdWrite flags b n a′ c) (Couple (blocks t b n) (blocks u c n) mirror)
-        (xdwrite-says flags b n a′ c (low b (w .range .range-in)) few small (low c (v .range .range-in)))
+        does-quietly m g a t h (xdwriteCdb flags b n a′ c) s r XdWrite (sixteenSaying 0xC0 XdWrite a flags b n a′ c) (Couple (blocks t b n) (blocks u c n) mirror)
+        (xdwrite-says a flags b n a′ c (low b (w .range .range-in)) few small (low c (v .range .range-in)))
         (ap (λ (x : ℕ). not (eqb x 0)) (z .no-other)
         then not-one
         then tested _ (ap (λ (x : ℕ). eqb x 1) (z .ndisc-is))
@@ -88,12 +89,12 @@ module _ (m : List ℕ) (g : Geometry) (a t : ℕ) (h : Target m g a t) (b n : �
         then tested _ (le-ltb (g .b) (c + n) (v .range .range-in))
         then tt)
         (ap (λ (x : Bool). cond x (Go (Retain (blocks t b n) (index (emptySlot m g)) (flags / 64 % 2) (flags / 32 % 2)) Good)
-        (Go (Couple (blocks t b n) (blocks (index (driveOf m g a′)) c n) (flags / 64 % 2)) Good)) not-three
+        (Go (Couple (blocks t b n) (blocks (index (secondaryOf m g a a′)) c n) (flags / 64 % 2)) Good)) not-three
         ∙ ap₂ (λ (x : Found) (y : ℕ). Go (Couple (blocks t b n) (blocks (index x) c n) y) Good) found (z .mirror-is))
         refl
 
   -- without Mirror, written out
-  pub coupled-xors : (flags sec : ℕ) → XdwriteByte flags 0 0 sec → Together sec → (a′ u c : ℕ) → driveOf m g a′ ≡ At u → a′ < 16777216
+  pub coupled-xors : (flags sec : ℕ) → XdwriteByte flags 0 0 sec → Together sec → (a′ u c : ℕ) → secondaryOf m g a a′ ≡ At u → a′ < 16777216
       → Blocks m g (blocks u c n) → (t ≡ u → ⊥)
       → Does m a (xdwriteCdb flags b n a′ c) s r 0
       (put (put m (place g t b) s) (place g u c) (blocksAt m g u c n ⊻ (s ⊻ blocksAt m g t b n))) r
@@ -107,8 +108,8 @@ module _ (m : List ℕ) (g : Geometry) (a t : ℕ) (h : Target m g a t) (b n : �
   retained-does flags mirror ndisc z a′ c la lc i v =
       let three : eqb (flags / 2 % 4) 3 ≡ true = ap (λ (x : ℕ). eqb x 3) (z .sec-is) in
       let spared : (x : Bool) → (not (eqb (flags / 2 % 4) 3) && x) ≡ false = (λ x. ap (λ (y : Bool). not y && x) three) in
-      does-quietly m g a t h (xdwriteCdb flags b n a′ c) s r XdWrite (sixteenSaying 0xC0 XdWrite flags b n a′ c) (Retain (blocks t b n) i mirror ndisc)
-      (xdwrite-says flags b n a′ c (low b (w .range .range-in)) few la lc)
+      does-quietly m g a t h (xdwriteCdb flags b n a′ c) s r XdWrite (sixteenSaying 0xC0 XdWrite a flags b n a′ c) (Retain (blocks t b n) i mirror ndisc)
+      (xdwrite-says a flags b n a′ c (low b (w .range .range-in)) few la lc)
       (ap (λ (x : ℕ). not (eqb x 0)) (z .no-other)
       then ap (λ (x : ℕ). eqb x 1) (z .sec-is)
       then spared _
@@ -124,7 +125,7 @@ module _ (m : List ℕ) (g : Geometry) (a t : ℕ) (h : Target m g a t) (b n : �
       then spared _
       then tt)
       (ap₂ (λ (x : Bool) (y : Found). cond x (Go (Retain (blocks t b n) (index y) (flags / 64 % 2) (flags / 32 % 2)) Good)
-      (Go (Couple (blocks t b n) (blocks (index (driveOf m g a′)) c n) (flags / 64 % 2)) Good)) three (v .takes)
+      (Go (Couple (blocks t b n) (blocks (index (secondaryOf m g a a′)) c n) (flags / 64 % 2)) Good)) three (v .takes)
       ∙ ap₂ (λ (x y : ℕ). Go (Retain (blocks t b n) i x y) Good) (z .mirror-is) (z .ndisc-is))
       refl
 

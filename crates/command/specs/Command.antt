@@ -7,6 +7,7 @@ use lib.ListN.{getD}
 use lib.Dec.{leb, eqb}
 use Rattle.octets.specs.Part.{part}
 use Rattle.octets.specs.Number.{num, be}
+use Rattle.drives.specs.declared.Came.{Came}
 use Rattle.command.specs.declared.Op.{Op}
 use Rattle.command.specs.declared.Op.the-variants.{XdWrite, XpWrite, XdRead, Rebuild, Regenerate, Read, Write, XdWriteTen, XdWriteRead, Unknown}
 use Rattle.command.specs.declared.Command.{Command}
@@ -62,11 +63,12 @@ zeroBits XdWriteRead = 0xE3
 zeroBits Unknown = 0
 
 -- "block 2-5, length 6-7, secondary address 8-10, secondary block 11-14"
-unfoldable pub sixteenOf : Op → List ℕ → Command
-sixteenOf o c =
+unfoldable pub sixteenOf : Op → Came → List ℕ → Command
+sixteenOf o a c =
     record {
       code = getD c 0 0;
       op = o;
+      came = a;
       flags = getD c 1 0;
       six = 0;
       control = getD c 15 0;
@@ -78,11 +80,12 @@ sixteenOf o c =
     }
 
 -- "block 2-5, length 7-8"; A1: "block in bytes 2-5, length in 7-8"
-unfoldable pub tenOf : Op → List ℕ → Command
-tenOf o c =
+unfoldable pub tenOf : Op → Came → List ℕ → Command
+tenOf o a c =
     record {
       code = getD c 0 0;
       op = o;
+      came = a;
       flags = getD c 1 0;
       six = getD c 6 0;
       control = getD c 9 0;
@@ -94,11 +97,12 @@ tenOf o c =
     }
 
 -- "length 2-5, list length 7-8"
-unfoldable pub listedOf : Op → List ℕ → Command
-listedOf o c =
+unfoldable pub listedOf : Op → Came → List ℕ → Command
+listedOf o a c =
     record {
       code = getD c 0 0;
       op = o;
+      came = a;
       flags = getD c 1 0;
       six = getD c 6 0;
       control = getD c 9 0;
@@ -110,17 +114,17 @@ listedOf o c =
     }
 
 -- "Fields"
-abbrev pub commandOf : Op → List ℕ → Command
-commandOf XdWrite c = sixteenOf XdWrite c
-commandOf XpWrite c = tenOf XpWrite c
-commandOf XdRead c = tenOf XdRead c
-commandOf Rebuild c = listedOf Rebuild c
-commandOf Regenerate c = listedOf Regenerate c
-commandOf Read c = tenOf Read c
-commandOf Write c = tenOf Write c
-commandOf XdWriteTen c = tenOf XdWriteTen c
-commandOf XdWriteRead c = tenOf XdWriteRead c
-commandOf Unknown c = tenOf Unknown c
+abbrev pub commandOf : Op → Came → List ℕ → Command
+commandOf XdWrite a c = sixteenOf XdWrite a c
+commandOf XpWrite a c = tenOf XpWrite a c
+commandOf XdRead a c = tenOf XdRead a c
+commandOf Rebuild a c = listedOf Rebuild a c
+commandOf Regenerate a c = listedOf Regenerate a c
+commandOf Read a c = tenOf Read a c
+commandOf Write a c = tenOf Write a c
+commandOf XdWriteTen a c = tenOf XdWriteTen a c
+commandOf XdWriteRead a c = tenOf XdWriteRead a c
+commandOf Unknown a c = tenOf Unknown a c
 
 -- XDWRITE: "bit 6 Mirror, 5 NDisc, .., 2-1 Sec Ctl"
 abbrev pub mirrorOf : Command → ℕ
@@ -161,6 +165,7 @@ ownOf k s =
     record {
       code = k .code;
       op = k .op;
+      came = k .came;
       flags = k .flags;
       six = k .six;
       control = k .control;
@@ -184,6 +189,7 @@ resolvedOf k B =
     record {
       code = k .code;
       op = k .op;
+      came = k .came;
       flags = k .flags;
       six = k .six;
       control = k .control;
@@ -201,14 +207,14 @@ listBytes k L = cond (eqb (k .list) 0) 0 (cond (eqb (intOf k) 0) (k .list) (k .l
 -- ---- three of them
 
 -- XDWRITE's byte 6 is length
-upper : commandOf XdWrite (0xC0 ∷ 6 ∷ 0 ∷ 0 ∷ 0 ∷ 0 ∷ 1 ∷ 0 ∷ 0 ∷ 0 ∷ 0 ∷ 0 ∷ 0 ∷ 0 ∷ 0 ∷ 0 ∷ []) .count ≡ 256
+upper : (a : Came) → commandOf XdWrite a (0xC0 ∷ 6 ∷ 0 ∷ 0 ∷ 0 ∷ 0 ∷ 1 ∷ 0 ∷ 0 ∷ 0 ∷ 0 ∷ 0 ∷ 0 ∷ 0 ∷ 0 ∷ 0 ∷ []) .count ≡ 256
 unfolding sixteenOf part num
-upper = refl
+upper a = refl
 
 -- REBUILD of a block, by a list of two sources
-two : commandOf Rebuild (0xC3 ∷ 0 ∷ 0 ∷ 0 ∷ 0 ∷ 1 ∷ 0 ∷ 0 ∷ 0x18 ∷ 0 ∷ []) .list ≡ 24
+two : (a : Came) → commandOf Rebuild a (0xC3 ∷ 0 ∷ 0 ∷ 0 ∷ 0 ∷ 1 ∷ 0 ∷ 0 ∷ 0x18 ∷ 0 ∷ []) .list ≡ 24
 unfolding listedOf part num
-two = refl
+two a = refl
 
 -- of two blocks, none is left from block 2 on
 none : resolvedCount 0xFFFFFFFF 2 2 ≡ 0xFFFFFFFF

@@ -19,6 +19,7 @@ use Rattle.command.specs.Command.{Fits, ownOf, resolvedCount, resolvedOf
 pub record SameButPlace (j k : Command) : Type 0 where
   pub code-kept : j .code ≡ k .code
   pub op-kept : j .op ≡ k .op
+  pub came-kept : j .came ≡ k .came
   pub flags-kept : j .flags ≡ k .flags
   pub six-kept : j .six ≡ k .six
   pub control-kept : j .control ≡ k .control
@@ -29,7 +30,7 @@ pub record SameButPlace (j k : Command) : Type 0 where
 module _ (k : Command) (s : List ℕ) where
   pub own-kept : SameButPlace (ownOf k s) k
   unfolding ownOf
-  own-kept = record { code-kept = refl; op-kept = refl; flags-kept = refl; six-kept = refl; control-kept = refl; list-kept = refl; second-kept = refl; spot-kept = refl }
+  own-kept = record { code-kept = refl; op-kept = refl; came-kept = refl; flags-kept = refl; six-kept = refl; control-kept = refl; list-kept = refl; second-kept = refl; spot-kept = refl }
 
   pub own-block : ownOf k s .block .0 ≡ be 4 s 4
   unfolding ownOf
@@ -50,7 +51,7 @@ resolved-same n b B h = rw (ne-eqb n 0xFFFFFFFF h)
 module _ (k : Command) (B : ℕ) where
   pub resolved-kept : SameButPlace (resolvedOf k B) k
   unfolding resolvedOf
-  resolved-kept = record { code-kept = refl; op-kept = refl; flags-kept = refl; six-kept = refl; control-kept = refl; list-kept = refl; second-kept = refl; spot-kept = refl }
+  resolved-kept = record { code-kept = refl; op-kept = refl; came-kept = refl; flags-kept = refl; six-kept = refl; control-kept = refl; list-kept = refl; second-kept = refl; spot-kept = refl }
 
   pub resolved-block : resolvedOf k B .block ≡ k .block
   unfolding resolvedOf

@@ -8,24 +8,25 @@ use lib.ListN.{length, getD}
 use Rattle.octets.specs.Octets.{Octets}
 use Rattle.octets.specs.Part.{part, part-add, part-snoc, part-all}
 use Rattle.octets.specs.Number.{be, toBe, put-be}
+use Rattle.drives.specs.declared.Came.{Came}
 use Rattle.command.specs.declared.Op.{Op}
 use Rattle.command.specs.declared.Op.the-variants.{XdWrite, XpWrite, XdRead, Rebuild, Regenerate, Read, Write, XdWriteTen, XdWriteRead, Unknown}
 use Rattle.command.specs.declared.Command.{Command}
 use Rattle.command.specs.Command.{sizeOf, sixteenOf, tenOf, listedOf, commandOf}
 
--- a decoded command keeps its operation
-pub command-op : (o : Op) (c : List ℕ) → commandOf o c .op ≡ o
+-- a decoded command keeps its operation, and how it came
+pub command-kept : (o : Op) (a : Came) (c : List ℕ) → (commandOf o a c .op ≡ o) × (commandOf o a c .came ≡ a)
 unfolding sixteenOf tenOf listedOf
-command-op XdWrite c = refl
-command-op XpWrite c = refl
-command-op XdRead c = refl
-command-op Rebuild c = refl
-command-op Regenerate c = refl
-command-op Read c = refl
-command-op Write c = refl
-command-op XdWriteTen c = refl
-command-op XdWriteRead c = refl
-command-op Unknown c = refl
+command-kept XdWrite a c = (refl, refl)
+command-kept XpWrite a c = (refl, refl)
+command-kept XdRead a c = (refl, refl)
+command-kept Rebuild a c = (refl, refl)
+command-kept Regenerate a c = (refl, refl)
+command-kept Read a c = (refl, refl)
+command-kept Write a c = (refl, refl)
+command-kept XdWriteTen a c = (refl, refl)
+command-kept XdWriteRead a c = (refl, refl)
+command-kept Unknown a c = (refl, refl)
 
 -- ---- the CDB
 
@@ -57,7 +58,7 @@ bytesBy Unknown k = []
 unfoldable pub cdbOf : Command → List ℕ
 cdbOf k = bytesBy (k .op) k
 
-module _ (c : List ℕ) (b : Octets c) where
+module _ (a : Came) (c : List ℕ) (b : Octets c) where
   -- the front of the CDB is written: a byte more, and a number of m bytes more
   byte : (n : ℕ) {xs : List ℕ} → n < length c → xs ≡ part c 0 n → xs ++ getD c n 0 ∷ [] ≡ part c 0 (n + 1)
   byte n h e = ap (λ (r : List ℕ). r ++ getD c n 0 ∷ []) e ∙ sym (rw zero-add at (part-snoc c 0 n (omega arith)))
@@ -84,7 +85,7 @@ module _ (c : List ℕ) (b : Octets c) where
   ten-back l = byte 9 (omega arith) (number 2 7 (omega arith) (byte 6 (omega arith) (number 4 2 (omega arith) (head (omega arith))))) ∙ all 10 l
 
   -- a CDB of a command's length is what the command is written as
-  pub lossless : (o : Op) → length c ≡ sizeOf o → cdbOf (commandOf o c) ≡ c
+  pub lossless : (o : Op) → length c ≡ sizeOf o → cdbOf (commandOf o a c) ≡ c
   unfolding cdbOf sixteenOf tenOf listedOf part
   lossless XdWrite l = sixteen-back l
   lossless XpWrite l = ten-back l
@@ -98,5 +99,5 @@ module _ (c : List ℕ) (b : Octets c) where
   lossless Unknown l = all 0 l
 
 -- two CDBs that say the same are the same
-pub same-cdb : (o : Op) (c c′ : List ℕ) → Octets c → Octets c′ → length c ≡ sizeOf o → length c′ ≡ sizeOf o → commandOf o c ≡ commandOf o c′ → c ≡ c′
-same-cdb o c c′ b b′ l l′ e = sym (lossless c b o l) ∙ ap cdbOf e ∙ lossless c′ b′ o l′
+pub same-cdb : (o : Op) (a a′ : Came) (c c′ : List ℕ) → Octets c → Octets c′ → length c ≡ sizeOf o → length c′ ≡ sizeOf o → commandOf o a c ≡ commandOf o a′ c′ → c ≡ c′
+same-cdb o a a′ c c′ b b′ l l′ e = sym (lossless a c b o l) ∙ ap cdbOf e ∙ lossless a′ c′ b′ o l′

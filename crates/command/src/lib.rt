@@ -1,5 +1,6 @@
 // A command by value: what the bytes of its CDB and of its parameter list say. Nothing is refused
 // here, and nothing is lost: the CDB can be written back from the command.
+use drives::Came;
 use geometry::Address;
 use geometry::Block;
 use geometry::Geometry;
@@ -28,6 +29,8 @@ pub struct Command {
     // byte 0 as it was sent: two codes say XPWRITE, two say XDREAD
     pub code: usize,
     pub op: Op,
+    // how it came
+    pub came: Came,
     // byte 1, byte 6 of a 10-byte command, and the last byte, each whole
     pub flags: usize,
     pub six: usize,
@@ -132,32 +135,33 @@ pub fn zero_bits(op: Op) -> usize
 
 impl Command {
     // The command in a CDB of its length. An unknown code has none.
-    pub fn decode(op: Op, cdb: &[u8]) -> Command
+    pub fn decode(op: Op, came: Came, cdb: &[u8]) -> Command
         requires { ⌜ (length (now cdb) ≡ sizeOf op) × (sizeOf op ≡ 0 → ⊥) ⌝ }
-        ensures { λ r. ⌜ (r ≡ commandOf op (now (cdb .entry))) × Fits r ⌝ }
+        ensures { λ r. ⌜ (r ≡ commandOf op came (now (cdb .entry))) × Fits r ⌝ }
     {
         match op {
-            Op::XdWrite => Command::sixteen(op, cdb),
-            Op::XpWrite => Command::ten(op, cdb),
-            Op::XdRead => Command::ten(op, cdb),
-            Op::Rebuild => Command::listed(op, cdb),
-            Op::Regenerate => Command::listed(op, cdb),
-            Op::Read => Command::ten(op, cdb),
-            Op::Write => Command::ten(op, cdb),
-            Op::XdWriteTen => Command::ten(op, cdb),
-            Op::XdWriteRead => Command::ten(op, cdb),
-            Op::Unknown => Command::ten(op, cdb),
+            Op::XdWrite => Command::sixteen(op, came, cdb),
+            Op::XpWrite => Command::ten(op, came, cdb),
+            Op::XdRead => Command::ten(op, came, cdb),
+            Op::Rebuild => Command::listed(op, came, cdb),
+            Op::Regenerate => Command::listed(op, came, cdb),
+            Op::Read => Command::ten(op, came, cdb),
+            Op::Write => Command::ten(op, came, cdb),
+            Op::XdWriteTen => Command::ten(op, came, cdb),
+            Op::XdWriteRead => Command::ten(op, came, cdb),
+            Op::Unknown => Command::ten(op, came, cdb),
         }
     }
 
     // block 2-5, length 6-7, secondary address 8-10, secondary block 11-14
-    fn sixteen(op: Op, cdb: &[u8]) -> Command
+    fn sixteen(op: Op, came: Came, cdb: &[u8]) -> Command
         requires { ⌜ length (now cdb) ≡ 16 ⌝ }
-        ensures { λ r. ⌜ (r ≡ sixteenOf op (now (cdb .entry))) × Fits r ⌝ }
+        ensures { λ r. ⌜ (r ≡ sixteenOf op came (now (cdb .entry))) × Fits r ⌝ }
     {
         Command {
             code: octets::byte(cdb, 0),
             op: op,
+            came: came,
             flags: octets::byte(cdb, 1),
             six: 0,
             control: octets::byte(cdb, 15),
@@ -170,13 +174,14 @@ impl Command {
     }
 
     // block 2-5, length 7-8
-    fn ten(op: Op, cdb: &[u8]) -> Command
+    fn ten(op: Op, came: Came, cdb: &[u8]) -> Command
         requires { ⌜ length (now cdb) ≡ 10 ⌝ }
-        ensures { λ r. ⌜ (r ≡ tenOf op (now (cdb .entry))) × Fits r ⌝ }
+        ensures { λ r. ⌜ (r ≡ tenOf op came (now (cdb .entry))) × Fits r ⌝ }
     {
         Command {
             code: octets::byte(cdb, 0),
             op: op,
+            came: came,
             flags: octets::byte(cdb, 1),
             six: octets::byte(cdb, 6),
             control: octets::byte(cdb, 9),
@@ -189,13 +194,14 @@ impl Command {
     }
 
     // length 2-5, list length 7-8
-    fn listed(op: Op, cdb: &[u8]) -> Command
+    fn listed(op: Op, came: Came, cdb: &[u8]) -> Command
         requires { ⌜ length (now cdb) ≡ 10 ⌝ }
-        ensures { λ r. ⌜ (r ≡ listedOf op (now (cdb .entry))) × Fits r ⌝ }
+        ensures { λ r. ⌜ (r ≡ listedOf op came (now (cdb .entry))) × Fits r ⌝ }
     {
         Command {
             code: octets::byte(cdb, 0),
             op: op,
+            came: came,
             flags: octets::byte(cdb, 1),
             six: octets::byte(cdb, 6),
             control: octets::byte(cdb, 9),

@@ -11,7 +11,8 @@ use Rattle.folds.specs.Least.{index}
 use Rattle.geometry.specs.declared.Geometry.{Geometry}
 use Rattle.geometry.specs.Header.{geometryOf}
 use Rattle.geometry.specs.Frame.{Framed}
-use Rattle.drives.specs.Table.{driveOf}
+use Rattle.drives.specs.declared.Came.{Came}
+use Rattle.drives.specs.Table.{targetOf}
 use Rattle.drives.specs.Lookup.{drive-inside}
 use Rattle.image.specs.Valid.{validImage}
 use Rattle.image.specs.Shelf.{valid-framed}
@@ -27,44 +28,44 @@ abbrev pub refusal : ℕ → Seen → Answer → Reached
 refusal n w x = Refused x
 
 -- "1 image not valid; 2 no such target"; or the target
-unfoldable pub calledOf : List ℕ → ℕ → Reached
-calledOf m a = first refusal (calls m a) (Drive (geometryOf m) (index (driveOf m (geometryOf m) a)))
+unfoldable pub calledOf : List ℕ → Came → Reached
+calledOf m a = first refusal (calls m a) (Drive (geometryOf m) (index (targetOf m (geometryOf m) a)))
 
 -- ---- as the code goes
 
-module _ (m : List ℕ) (a : ℕ) where
+module _ (m : List ℕ) (a : Came) where
   pub called-bad : validImage m ≡ false → Refused BadImage ≡ calledOf m a
   unfolding calledOf
   called-bad v = rw v
 
   module _ (v : validImage m ≡ true) (g : Geometry) (h : g ≡ geometryOf m) where
-    pub called-none : driveOf m g a ≡ Nothing → Refused NoTarget ≡ calledOf m a
+    pub called-none : targetOf m g a ≡ Nothing → Refused NoTarget ≡ calledOf m a
     unfolding calledOf
-    called-none f = let e : driveOf m (geometryOf m) a ≡ Nothing = ap (λ (x : Geometry). driveOf m x a) (sym h) ∙ f in rw (v, e)
+    called-none f = let e : targetOf m (geometryOf m) a ≡ Nothing = ap (λ (x : Geometry). targetOf m x a) (sym h) ∙ f in rw (v, e)
 
-    pub called-at : (t : ℕ) → driveOf m g a ≡ At t → Drive g t ≡ calledOf m a
+    pub called-at : (t : ℕ) → targetOf m g a ≡ At t → Drive g t ≡ calledOf m a
     unfolding calledOf
-    called-at t f = let e : driveOf m (geometryOf m) a ≡ At t = ap (λ (x : Geometry). driveOf m x a) (sym h) ∙ f in rw (v, e, h)
+    called-at t f = let e : targetOf m (geometryOf m) a ≡ At t = ap (λ (x : Geometry). targetOf m x a) (sym h) ∙ f in rw (v, e, h)
 
 -- ---- what it says
 
--- image m is a shelf with geometry g, and drive t has address a
-pub record Addressed (m : List ℕ) (a : ℕ) (g : Geometry) (t : ℕ) : Type 0 where
+-- image m is a shelf with geometry g, and a command that came as a was sent to drive t
+pub record Addressed (m : List ℕ) (a : Came) (g : Geometry) (t : ℕ) : Type 0 where
   pub valid : validImage m ≡ true
   pub header : g ≡ geometryOf m
-  pub found : driveOf m g a ≡ At t
+  pub found : targetOf m g a ≡ At t
   pub frame : Framed m g
   pub inside : t < g .d
 
-pub addressed-found : (m : List ℕ) (a : ℕ) (g : Geometry) (t : ℕ) → Addressed m a g t → driveOf m (geometryOf m) a ≡ At t
-addressed-found m a g t x = ap (λ (k : Geometry). driveOf m k a) (sym (x .header)) ∙ x .found
+pub addressed-found : (m : List ℕ) (a : Came) (g : Geometry) (t : ℕ) → Addressed m a g t → targetOf m (geometryOf m) a ≡ At t
+addressed-found m a g t x = ap (λ (k : Geometry). targetOf m k a) (sym (x .header)) ∙ x .found
 
-module _ (m : List ℕ) (a : ℕ) where
+module _ (m : List ℕ) (a : Came) where
   pub called-drive : (g : Geometry) (t : ℕ) → calledOf m a ≡ Drive g t → Addressed m a g t
   unfolding calledOf
-  called-drive g t e = pick (validImage m) (driveOf m (geometryOf m) a) refl refl e
+  called-drive g t e = pick (validImage m) (targetOf m (geometryOf m) a) refl refl e
     where
-      pick : (v : Bool) (f : Found) → validImage m ≡ v → driveOf m (geometryOf m) a ≡ f
+      pick : (v : Bool) (f : Found) → validImage m ≡ v → targetOf m (geometryOf m) a ≡ f
           → first refusal (rule 1 Dash (not v) BadImage ∷ rule 1 Dash (isNothing f) NoTarget ∷ []) (Drive (geometryOf m) (index f)) ≡ Drive g t
           → Addressed m a g t
       pick false f p q e = let z : _≡_ {A = ℕ} 0 1 = cc in absurd (omega arith)
@@ -72,13 +73,13 @@ module _ (m : List ℕ) (a : ℕ) where
       pick true (At i) p q e =
           let h : g ≡ geometryOf m = cc in
           let j : i ≡ t = cc in
-          let f : driveOf m g a ≡ At t = ap (λ (x : Geometry). driveOf m x a) h ∙ q ∙ ap At j in
-          record { valid = p; header = h; found = f; frame = valid-framed m g p h; inside = drive-inside m g a t f .0 }
+          let f : targetOf m g a ≡ At t = ap (λ (x : Geometry). targetOf m x a) h ∙ q ∙ ap At j in
+          record { valid = p; header = h; found = f; frame = valid-framed m g p h; inside = drive-inside m g (a .target .0) t f .0 }
 
   -- where it refuses, so does every list of checks that begins with calls 1 and 2, whatever follows
   pub called-refused : {D : Type 0} (stop : ℕ → Seen → Answer → D) (x : Answer) (d : D) → calledOf m a ≡ Refused x → stop 1 Dash x ≡ first stop (calls m a) d
   unfolding calledOf
-  called-refused {D} stop x d e = pick (validImage m) (driveOf m (geometryOf m) a) e
+  called-refused {D} stop x d e = pick (validImage m) (targetOf m (geometryOf m) a) e
     where
       pick : (v : Bool) (f : Found)
           → first refusal (rule 1 Dash (not v) BadImage ∷ rule 1 Dash (isNothing f) NoTarget ∷ []) (Drive (geometryOf m) (index f)) ≡ Refused x

@@ -10,13 +10,14 @@ use lib.ListN.{length, getD}
 use borrow.Author.Tests.{eq-eqb, ne-eqb}
 use Rattle.folds.specs.Cases.{either}
 use Rattle.geometry.specs.declared.Geometry.{Geometry}
+use Rattle.drives.specs.declared.Came.{Came}
 use Rattle.drives.specs.Table.{failed}
 use Rattle.sense.specs.declared.Answer.the-variants.{TargetFailed, BadField}
 use Rattle.command.specs.declared.Op.{Op}
 use Rattle.command.specs.declared.Op.the-variants.{XdWrite, XpWrite, XdRead, Rebuild, Regenerate, Read, Write, XdWriteTen, XdWriteRead, Unknown}
 use Rattle.command.specs.declared.Command.{Command}
 use Rattle.command.specs.Command.{opOf, sizeOf, zeroBits, commandOf, secOf, ownOf, resolvedOf}
-use Rattle.command.specs.Lossless.{command-op}
+use Rattle.command.specs.Lossless.{command-kept}
 use Rattle.meaning.specs.declared.Seen.the-variants.{Cdb, Drive}
 use Rattle.meaning.specs.declared.Decision.the-variants.{Stop}
 use Rattle.meaning.specs.Checks.{decideOf}
@@ -67,26 +68,26 @@ module _ (m : List ℕ) (g : Geometry) (t : ℕ) (k : Command) (s : List ℕ) (r
     unfolding flaggedOf
     flags-on h o′ q = rw (eq-eqb (bitAnd (k .flags) (zeroBits o)) 0 (ap (bitAnd (k .flags)) (sym e) ∙ h)) (ap (λ (x : Op). eachOf x m g t k s r) (sym q))
 
-module _ (m : List ℕ) (g : Geometry) (t : ℕ) (c s : List ℕ) (r : ℕ) where
+module _ (m : List ℕ) (g : Geometry) (a : Came) (t : ℕ) (c s : List ℕ) (r : ℕ) where
   pub check-2-failed : (o : Op) → (sizeOf o ≡ 0 → ⊥) → length c ≡ sizeOf o → failed m g t ≡ true
-      → Stop 3 (Drive t) TargetFailed ≡ fromCheck2 o m g t c s r
+      → Stop 3 (Drive t) TargetFailed ≡ fromCheck2 o m g a t c s r
   unfolding fromCheck2
   check-2-failed o z l f = rw (ne-eqb (sizeOf o) 0 z, eq-eqb (length c) (sizeOf o) l, f)
 
-  pub check-2-on : (o : Op) (k : Command) → k ≡ commandOf o c → (sizeOf o ≡ 0 → ⊥) → length c ≡ sizeOf o → failed m g t ≡ false
-      → flaggedOf (k .op) m g t k s r ≡ fromCheck2 o m g t c s r
+  pub check-2-on : (o : Op) (k : Command) → k ≡ commandOf o a c → (sizeOf o ≡ 0 → ⊥) → length c ≡ sizeOf o → failed m g t ≡ false
+      → flaggedOf (k .op) m g t k s r ≡ fromCheck2 o m g a t c s r
   unfolding fromCheck2
   check-2-on o k e z l f =
-      let p : k .op ≡ o = ap (λ (x : Command). x .op) e ∙ command-op o c in
+      let p : k .op ≡ o = ap (λ (x : Command). x .op) e ∙ command-kept o a c .0 in
       ap (λ (x : Op). flaggedOf x m g t k s r) p
       ∙ joined m g t k s r o z
       ∙ ap (λ (x : Command). checkedOf o m g t x s r) e
       ∙ sym (rw (ne-eqb (sizeOf o) 0 z, eq-eqb (length c) (sizeOf o) l, f))
 
-  pub call-3-on : (o : Op) (b : ℕ) → b ≡ getD c 0 0 → o ≡ opOf b → (length c ≡ 0 → ⊥) → fromCheck2 o m g t c s r ≡ fromCall3 m g t c s r
+  pub call-3-on : (o : Op) (b : ℕ) → b ≡ getD c 0 0 → o ≡ opOf b → (length c ≡ 0 → ⊥) → fromCheck2 o m g a t c s r ≡ fromCall3 m g a t c s r
   unfolding fromCall3
   call-3-on o b e h z = rw (h, e, ne-eqb (length c) 0 z)
 
-  pub decide-on : (a : ℕ) → Addressed m a g t → fromCall3 m g t c s r ≡ decideOf m a c s r
+  pub decide-on : Addressed m a g t → fromCall3 m g a t c s r ≡ decideOf m a c s r
   unfolding decideOf fromCall3 fromCheck2 checkedOf
-  decide-on a x = ap (λ (y : Geometry). fromCall3 m y t c s r) (x .header) ∙ rw (x .valid, addressed-found m a g t x)
+  decide-on x = ap (λ (y : Geometry). fromCall3 m y a t c s r) (x .header) ∙ rw (x .valid, addressed-found m a g t x)

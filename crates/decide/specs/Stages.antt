@@ -6,6 +6,7 @@ use lib.Dec.{eqb}
 use lib.ListN.{length, getD}
 use Rattle.rules.specs.Rule.{rule, first}
 use Rattle.geometry.specs.declared.Geometry.{Geometry}
+use Rattle.drives.specs.declared.Came.{Came}
 use Rattle.sense.specs.declared.Answer.the-variants.{BadCdb, UnknownCode}
 use Rattle.command.specs.declared.Op.{Op}
 use Rattle.command.specs.declared.Op.the-variants.{XdWrite, XpWrite, XdRead, Rebuild, Regenerate, Read, Write, XdWriteTen, XdWriteRead, Unknown}
@@ -39,10 +40,10 @@ flaggedOf o m g t k s r = first Stop (zeroFlags o k) (eachOf o m g t k s r)
 unfoldable pub checkedOf : Op → List ℕ → Geometry → ℕ → Command → List ℕ → ℕ → Decision
 checkedOf o m g t k s r = first Stop (commandChecks o m g t k s r) (acts o m g t k s)
 
-unfoldable pub fromCheck2 : Op → List ℕ → Geometry → ℕ → List ℕ → List ℕ → ℕ → Decision
-fromCheck2 o m g t c s r =
+unfoldable pub fromCheck2 : Op → List ℕ → Geometry → Came → ℕ → List ℕ → List ℕ → ℕ → Decision
+fromCheck2 o m g a t c s r =
     first Stop (rule 1 Dash (not (isUnknown o) && not (eqb (length c) (sizeOf o))) BadCdb ∷ known m g t o)
-    (checkedOf o m g t (commandOf o c) s r)
+    (checkedOf o m g t (commandOf o a c) s r)
 
-unfoldable pub fromCall3 : List ℕ → Geometry → ℕ → List ℕ → List ℕ → ℕ → Decision
-fromCall3 m g t c s r = first Stop (rule 1 Dash (eqb (length c) 0) BadCdb ∷ []) (fromCheck2 (opOf (getD c 0 0)) m g t c s r)
+unfoldable pub fromCall3 : List ℕ → Geometry → Came → ℕ → List ℕ → List ℕ → ℕ → Decision
+fromCall3 m g a t c s r = first Stop (rule 1 Dash (eqb (length c) 0) BadCdb ∷ []) (fromCheck2 (opOf (getD c 0 0)) m g a t c s r)

@@ -4,8 +4,8 @@ mod each;
 
 use command::Command;
 use command::Op;
+use drives::Came;
 use folds::Found;
-use geometry::Address;
 use geometry::Geometry;
 use meaning::Decision;
 use meaning::Seen;
@@ -24,26 +24,26 @@ pub enum Reached {
 }
 
 // The two checks that a command, a reset and a marking have in common.
-pub fn called(image: &[u8], target: Address) -> Reached
-    ensures { λ r. ⌜ r ≡ calledOf (now (image .entry)) (target .0) ⌝ }
+pub fn called(image: &[u8], came: Came) -> Reached
+    ensures { λ r. ⌜ r ≡ calledOf (now (image .entry)) came ⌝ }
 {
     if !image::valid(image) {
         return Reached::Refused(Answer::BadImage);
     }
     let g = Geometry::read(image);
-    match drives::find_drive(image, g, target) {
+    match drives::find_target(image, g, came) {
         Found::At(t) => Reached::Drive(g, t),
         Found::Nothing => Reached::Refused(Answer::NoTarget),
     }
 }
 
 // The check that decides, where it was seen and the answer; or what is done.
-pub fn decide(image: &[u8], target: Address, cdb: &[u8], sent: &[u8], room: usize) -> Decision
-    ensures { λ r. ⌜ r ≡ decideOf (now (image .entry)) (target .0) (now (cdb .entry)) (now (sent .entry)) room ⌝ }
+pub fn decide(image: &[u8], came: Came, cdb: &[u8], sent: &[u8], room: usize) -> Decision
+    ensures { λ r. ⌜ r ≡ decideOf (now (image .entry)) came (now (cdb .entry)) (now (sent .entry)) room ⌝ }
 {
-    match called(image, target) {
+    match called(image, came) {
         Reached::Refused(answer) => return Decision::Stop(1, Seen::Dash, answer),
-        Reached::Drive(g, t) => return from_call_3(image, g, t, cdb, sent, room),
+        Reached::Drive(g, t) => return from_call_3(image, g, came, t, cdb, sent, room),
     }
 }
 
@@ -51,19 +51,20 @@ pub fn decide(image: &[u8], target: Address, cdb: &[u8], sent: &[u8], room: usiz
 fn from_call_3(
     image: &[u8],
     g: Geometry,
+    came: Came,
     t: usize,
     cdb: &[u8],
     sent: &[u8],
     room: usize,
 ) -> Decision
     requires { ⌜ Framed (now image) g × (t < g .d) ⌝ }
-    ensures { λ r. ⌜ r ≡ fromCall3 (now (image .entry)) g t (now (cdb .entry)) (now (sent .entry)) room ⌝ }
+    ensures { λ r. ⌜ r ≡ fromCall3 (now (image .entry)) g came t (now (cdb .entry)) (now (sent .entry)) room ⌝ }
 {
     if cdb.len() == 0 {
         return Decision::Stop(1, Seen::Dash, Answer::BadCdb);
     }
     let op = command::op_of(octets::byte(cdb, 0));
-    from_check_2(op, image, g, t, cdb, sent, room)
+    from_check_2(op, image, g, came, t, cdb, sent, room)
 }
 
 // Call 3 of a known code, checks 2 and 3. An unknown code has no length of its own.
@@ -71,13 +72,14 @@ fn from_check_2(
     op: Op,
     image: &[u8],
     g: Geometry,
+    came: Came,
     t: usize,
     cdb: &[u8],
     sent: &[u8],
     room: usize,
 ) -> Decision
     requires { ⌜ Framed (now image) g × (t < g .d) ⌝ }
-    ensures { λ r. ⌜ r ≡ fromCheck2 op (now (image .entry)) g t (now (cdb .entry)) (now (sent .entry)) room ⌝ }
+    ensures { λ r. ⌜ r ≡ fromCheck2 op (now (image .entry)) g came t (now (cdb .entry)) (now (sent .entry)) room ⌝ }
 {
     let size = command::size_of(op);
     if size == 0 {
@@ -89,5 +91,5 @@ fn from_check_2(
     if drives::is_failed(image, g, t) {
         return Decision::Stop(3, Seen::Drive(t), Answer::TargetFailed);
     }
-    each::each(image, g, t, Command::decode(op, cdb), sent, room)
+    each::each(image, g, t, Command::decode(op, came, cdb), sent, room)
 }

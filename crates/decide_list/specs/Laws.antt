@@ -9,13 +9,14 @@ use Rattle.folds.specs.declared.Found.the-variants.{At, Nothing}
 use Rattle.geometry.specs.declared.Geometry.{Geometry}
 use Rattle.sense.specs.declared.Answer.the-variants.{Good, Busy, BadList}
 use Rattle.command.specs.declared.Command.{Command}
-use Rattle.command.specs.Command.{intOf, listSecOf, ownOf, resolvedOf, listBytes}
+use Rattle.command.specs.Command.{listSecOf, ownOf, resolvedOf, listBytes}
 use Rattle.meaning.specs.declared.Span.{Span}
+use Rattle.meaning.specs.declared.Sum.{Sum}
 use Rattle.meaning.specs.declared.Act.the-variants.{Rebuild, Regenerate}
 use Rattle.meaning.specs.declared.Seen.the-variants.{Dash, Cdb, Entry}
 use Rattle.meaning.specs.declared.Decision.the-variants.{Stop, Go}
 use Rattle.meaning.specs.Sources.{firstBad}
-use Rattle.meaning.specs.Checks.{spanOf}
+use Rattle.meaning.specs.Checks.{spanOf, sumOf}
 use Rattle.decide_list.specs.Stages.{faultOr, rebuiltOf, gatheredOf, regeneratedOf, placedOf, lengthOf, ownedOf, headedOf, listSizedOf, countedOf, fieldsOf, unbounded, rebuildOf}
 
 module _ (m : List ℕ) (g : Geometry) (t : ℕ) (k : Command) (s : List ℕ) where
@@ -39,14 +40,14 @@ module _ (m : List ℕ) (g : Geometry) (t : ℕ) (k : Command) (s : List ℕ) wh
   module _ (n : ℕ) where
     -- ---- what a search has found
 
-    module _ (x : Span) (int : ℕ) (h : x ≡ spanOf t k) (q : int ≡ intOf k) where
+    module _ (x : Span) (j : Sum) (h : x ≡ spanOf t k) (q : j ≡ sumOf k) where
       pub placed-rebuild : (keep : Bool) → k .block .0 + k .count ≤ g .b → keep ≡ false
-          → faultOr (firstBad m g s (k .count) 0 n) (Go (Rebuild x n int) Good) ≡ placedOf keep n m g t k s
+          → faultOr (firstBad m g (k .came) s (k .count) 0 n) (Go (Rebuild x j) Good) ≡ placedOf keep n m g t k s
       unfolding placedOf rebuiltOf
       placed-rebuild keep l e = rw (le-ltb (g .b) (k .block .0 + k .count) l, e, h, q)
 
       pub regenerated-at : (f : Found) (i : ℕ) → f ≡ At i
-          → faultOr (firstBad m g s (k .count) 0 n) (Go (Regenerate x n int i) Good) ≡ regeneratedOf n f m g t k s
+          → faultOr (firstBad m g (k .came) s (k .count) 0 n) (Go (Regenerate x j i) Good) ≡ regeneratedOf n f m g t k s
       unfolding regeneratedOf gatheredOf
       regenerated-at f i e = rw (e, h, q)
 

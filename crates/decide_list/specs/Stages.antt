@@ -20,7 +20,7 @@ use Rattle.meaning.specs.declared.Seen.the-variants.{Dash, Cdb, List as InList,
 use Rattle.meaning.specs.declared.Decision.{Decision}
 use Rattle.meaning.specs.declared.Decision.the-variants.{Stop, Go}
 use Rattle.meaning.specs.Sources.{ownEntry, firstBad}
-use Rattle.meaning.specs.Checks.{isNothing, zeroSix, zeroControl, resolved, inRange, sourceRules, spanOf}
+use Rattle.meaning.specs.Checks.{isNothing, zeroSix, zeroControl, resolved, inRange, sourceRules, spanOf, sumOf}
 
 -- ---- checks 8 to 10
 
@@ -28,10 +28,10 @@ unfoldable pub faultOr : Fault → Decision → Decision
 faultOr f d = first Stop (sourceRules f) d
 
 unfoldable pub rebuiltOf : ℕ → List ℕ → Geometry → ℕ → Command → List ℕ → Decision
-rebuiltOf n m g t k s = faultOr (firstBad m g s (k .count) 0 n) (Go (Rebuild (spanOf t k) n (intOf k)) Good)
+rebuiltOf n m g t k s = faultOr (firstBad m g (k .came) s (k .count) 0 n) (Go (Rebuild (spanOf t k) (sumOf k)) Good)
 
 unfoldable pub gatheredOf : ℕ → ℕ → List ℕ → Geometry → ℕ → Command → List ℕ → Decision
-gatheredOf n slot m g t k s = faultOr (firstBad m g s (k .count) 0 n) (Go (Regenerate (spanOf t k) n (intOf k) slot) Good)
+gatheredOf n slot m g t k s = faultOr (firstBad m g (k .came) s (k .count) 0 n) (Go (Regenerate (spanOf t k) (sumOf k) slot) Good)
 
 -- f is the empty slot
 unfoldable pub regeneratedOf : ℕ → Found → List ℕ → Geometry → ℕ → Command → List ℕ → Decision
@@ -59,7 +59,7 @@ headedOf keep m g t k s =
     ∷ rule 7 (InList 1) (not (eqb (getD s 1 0) 1)) BadList
     ∷ rule 7 (InList 2) (not (eqb (be 2 s 2) 0)) BadList
     ∷ [])
-    (ownedOf keep (getD s 0 0) (ownEntry m g s (getD s 0 0) t) m g t k s)
+    (ownedOf keep (getD s 0 0) (ownEntry m g (k .came) s (getD s 0 0) t) m g t k s)
 
 unfoldable pub listSizedOf : Bool → List ℕ → Geometry → ℕ → Command → List ℕ → Decision
 listSizedOf keep m g t k s =

@@ -63,10 +63,10 @@ fn owned(
     sent: &[u8],
 ) -> Decision
     requires { ⌜ Framed (now image) g × Fits k × (8 + 8 * n ≤ length (now sent)) ⌝ }
-    ensures { λ r. ⌜ r ≡ ownedOf keep n (ownEntry (now (image .entry)) g (now (sent .entry)) n t) (now (image .entry)) g t k (now (sent .entry)) ⌝ }
+    ensures { λ r. ⌜ r ≡ ownedOf keep n (ownEntry (now (image .entry)) g (k .came) (now (sent .entry)) n t) (now (image .entry)) g t k (now (sent .entry)) ⌝ }
 {
     let count = k.count;
-    if let Found::At(i) = list_entries::own_entry(image, g, sent, n, t) {
+    if let Found::At(i) = list_entries::own_entry(image, g, k.came, sent, n, t) {
         return Decision::Stop(7, Seen::Entry(i, 0), Answer::BadList);
     }
     if count == 0 {

@@ -11,7 +11,7 @@ use Rattle.folds.specs.declared.Found.the-variants.{At, Nothing}
 use Rattle.rules.specs.Rule.{rule, first}
 use Rattle.folds.specs.Least.{index}
 use Rattle.geometry.specs.declared.Geometry.{Geometry}
-use Rattle.drives.specs.Table.{driveOf, failed}
+use Rattle.drives.specs.Table.{secondaryOf, failed}
 use Rattle.slots.specs.Find.{emptySlot}
 use Rattle.sense.specs.declared.Answer.the-variants.{Good, WrongCount, BadField, NestedAddress, NestedFailed, NestedRange}
 use Rattle.command.specs.declared.Command.{Command}
@@ -61,4 +61,4 @@ xdwriteOf m g t k s =
     ∷ rule 4 (Cdb 1) (not (eqb (secOf k) 3) && eqb (ndiscOf k) 1) BadField
     ∷ [])
     (cond (eqb (secOf k) 3) (limitedOf false Nothing m g t k s)
-    (limitedOf (isAt t (driveOf m g (k .second .0))) (driveOf m g (k .second .0)) m g t k s))
+    (limitedOf (isAt t (secondaryOf m g (k .came) (k .second .0))) (secondaryOf m g (k .came) (k .second .0)) m g t k s))

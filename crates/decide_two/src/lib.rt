@@ -30,7 +30,7 @@ pub fn xdwrite(image: &[u8], g: Geometry, t: usize, k: Command, sent: &[u8]) -> 
     if ndisc == 1 {
         return Decision::Stop(4, Seen::Cdb(1), Answer::BadField);
     }
-    let there = drives::find_drive(image, g, second);
+    let there = drives::find_secondary(image, g, k.came, second);
     limited(list_entries::is_at(there, t), there, image, g, t, k, sent)
 }
 

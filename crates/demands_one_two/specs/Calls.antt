@@ -11,7 +11,8 @@ use Rattle.rules.specs.Rule.{first-cases, first-both}
 use Rattle.geometry.specs.declared.Geometry.{Geometry}
 use Rattle.geometry.specs.Header.{geometryOf}
 use Rattle.geometry.specs.Outside.{outside-away}
-use Rattle.drives.specs.Table.{addressOf, driveOf, marked}
+use Rattle.drives.specs.declared.Came.{Came}
+use Rattle.drives.specs.Table.{addressOf, targetOf, marked}
 use Rattle.drives.specs.Front.{SameFront}
 use Rattle.drives.specs.Lookup.{drive-inside}
 use Rattle.drives.specs.Marked.{address-marked}
@@ -29,19 +30,19 @@ use Rattle.grants.specs.Passed.{found}
 abbrev Keeps : List ℕ → Answer → List ℕ → Type 0
 Keeps m x t = (x ≡ Good → ⊥) → t ≡ m
 
-pub reset-keeps : (m : List ℕ) (a : ℕ) → Keeps m (resetAnswer m a) (resetImage m a)
+pub reset-keeps : (m : List ℕ) (a : Came) → Keeps m (resetAnswer m a) (resetImage m a)
 unfolding resetAnswer resetImage
 reset-keeps m a = first-both answered (untouched m) (Keeps m) (calls m a) Good _ (λ n w x k. refl) (λ p k. absurd (k refl))
 
-pub mark-keeps : (m : List ℕ) (a state : ℕ) → Keeps m (markAnswer m a state) (markImage m a state)
+pub mark-keeps : (m : List ℕ) (a : Came) (state : ℕ) → Keeps m (markAnswer m a state) (markImage m a state)
 unfolding markAnswer markImage
 mark-keeps m a state = first-both answered (untouched m) (Keeps m) (markCalls m a state) Good _ (λ n w x k. refl) (λ p k. absurd (k refl))
 
 -- the target that passed call 2 is a drive
-pub target-in : (m : List ℕ) (a : ℕ) → isNothing (driveOf m (geometryOf m) a) ≡ false → target m a < geometryOf m .d
-target-in m a e = drive-inside m (geometryOf m) a (target m a) (found (driveOf m (geometryOf m) a) e) .0
+pub target-in : (m : List ℕ) (a : Came) → isNothing (targetOf m (geometryOf m) a) ≡ false → target m a < geometryOf m .d
+target-in m a e = drive-inside m (geometryOf m) (a .target .0) (target m a) (found (targetOf m (geometryOf m) a) e) .0
 
-module _ (m : List ℕ) (g : Geometry) (h : Shelf m g) (a : ℕ) where
+module _ (m : List ℕ) (g : Geometry) (h : Shelf m g) (a : Came) where
   pub reset-shelf : Shelf (resetImage m a) g
   unfolding resetImage
   reset-shelf =

@@ -5,6 +5,7 @@ use Prim.Native.Nat.{ℕ, _<_}
 use lib.Dec.{lit<}
 use lib.ListN.{length}
 use Rattle.geometry.specs.Header.{geometryOf}
+use Rattle.drives.specs.declared.Came.{Came}
 use Rattle.image.specs.Shelf.{shelf-frame}
 use Rattle.meaning.specs.declared.Decision.{Decision}
 use Rattle.meaning.specs.declared.Decision.the-variants.{Stop, Go}
@@ -12,7 +13,7 @@ use Rattle.meaning.specs.Step.{decided, outcomeAfter, stepOutcome}
 use Rattle.grants.specs.Granted.{granted}
 use Rattle.demands_one_two.specs.Fine.{fine}
 
-pub count-small : (m : List ℕ) (a : ℕ) (c s r : List ℕ) → stepOutcome m a c s r .count < 4294967296
+pub count-small : (m : List ℕ) (a : Came) (c s r : List ℕ) → stepOutcome m a c s r .count < 4294967296
 unfolding stepOutcome
 count-small m a c s r = pick (decided m a c s r) refl
   where

@@ -90,7 +90,7 @@ module _ (m : List ℕ) (g : Geometry) (f : Framed m g) (s : List ℕ) (room : �
   fine (Couple x y mirror) (bx, by, e, ne, l) = made _ _ _ none (covering y _ by (length-passed x y mirror bx by e l), (covering x s bx l, tt)) tt
   fine (Retain x i mirror ndisc) (b, e, most, v) =
       made _ _ _ none (data-covers x ndisc b e) (v .takes, sound-in 1 x _ (omega arith) (omega arith) b most (length-result m g f x b mirror s e))
-  fine (Rebuild x n int) (b, w) = made _ _ _ none (covering x _ b (length-gathered m g x n int s f w), tt) tt
-  fine (Regenerate x n int i) (b, w, most, v) =
-      made _ _ _ none tt (v .takes, sound-in 2 x _ (omega arith) (omega arith) b most (length-own x _ b (length-gathered m g x n int s f w)))
+  fine (Rebuild x j) (b, w) = made _ _ _ none (covering x _ b (length-gathered m g x j s f w), tt) tt
+  fine (Regenerate x j i) (b, w, most, v) =
+      made _ _ _ none tt (v .takes, sound-in 2 x _ (omega arith) (omega arith) b most (length-own x _ b (length-gathered m g x j s f w)))
   fine (XdWriteRead x disable) (b, e, r) = made _ _ _ (handing x (s ⊻ blocksOf m g x) (in-drive x b) (length-result m g f x b 0 s e) r) (data-covers x disable b e) tt

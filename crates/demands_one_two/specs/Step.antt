@@ -9,6 +9,7 @@ use Rattle.octets.specs.Part.{part}
 use Rattle.octets.specs.PutPut.{part-put-above}
 use Rattle.geometry.specs.declared.Geometry.{Geometry}
 use Rattle.geometry.specs.Header.{geometryOf}
+use Rattle.drives.specs.declared.Came.{Came}
 use Rattle.image.specs.Shelf.{Shelf}
 use Rattle.sense.specs.declared.Answer.{Answer}
 use Rattle.sense.specs.declared.Answer.the-variants.{Good}
@@ -21,7 +22,7 @@ use Rattle.grants.specs.Granted.{granted, allowed-at}
 use Rattle.demands_one_two.specs.Valid.{leaves-shelf}
 use Rattle.demands_one_two.specs.Beside.{Beside, leaves-beside}
 
-module _ (m : List ℕ) (a : ℕ) (c s r : List ℕ) where
+module _ (m : List ℕ) (a : Came) (c s r : List ℕ) where
   -- an answer that is not GOOD leaves image and room as they were
   pub refused-keeps : (stepOutcome m a c s r .answer ≡ Good → ⊥) → (stepImage m a c s r ≡ m) × (stepRoom m a c s r ≡ r)
   unfolding stepOutcome stepImage stepRoom

@@ -12,6 +12,7 @@ use Rattle.folds.specs.Least.{leastBelow}
 use Rattle.geometry.specs.declared.Geometry.{Geometry}
 use Rattle.geometry.specs.Header.{entryAt}
 use Rattle.geometry.specs.Stores.{Store, store, Table, stored}
+use Rattle.drives.specs.declared.Came.{Came}
 
 -- "per drive 4 bytes, state .. and a 3-byte address"
 abbrev pub stateOf : List ℕ → Geometry → ℕ → ℕ
@@ -41,6 +42,20 @@ tableOk m g = every (statesOk m g ∷ addressesOk m g ∷ [])
 -- the drive with address a, compared as a whole number
 unfoldable pub driveOf : List ℕ → Geometry → ℕ → Found
 driveOf m g a = leastBelow (g .d) (λ i. eqb (addressOf m g i) a)
+
+-- a command that was sent to address n
+abbrev pub to : ℕ → Came
+to n = record { target = record { 0 = n } }
+
+-- the drive that a command was sent to, the one that it names as its secondary, and the one that a source entry of it names
+abbrev pub targetOf : List ℕ → Geometry → Came → Found
+targetOf m g a = driveOf m g (a .target .0)
+
+abbrev pub secondaryOf : List ℕ → Geometry → Came → ℕ → Found
+secondaryOf m g a x = driveOf m g x
+
+abbrev pub sourceDrive : List ℕ → Geometry → Came → ℕ → Found
+sourceDrive m g a x = driveOf m g x
 
 -- "Marking writes the state byte alone"
 abbrev pub marks : Geometry → ℕ → ℕ → List Store

@@ -6,7 +6,12 @@ use geometry::Geometry;
 ghost use mathlib.Core.Path.{_≡_};
 ghost use Prim.Native.Nat.{_<_};
 ghost use Rattle.geometry.specs.Frame.{Framed};
-ghost use Rattle.drives.specs.Table.{addressOf, failed, statesOk, newAddress, addressesOk, tableOk, driveOf, marked};
+ghost use Rattle.drives.specs.Table.{addressOf, failed, statesOk, newAddress, addressesOk, tableOk, driveOf, targetOf, secondaryOf, sourceDrive, marked};
+
+// How a command came: the address that it was sent to.
+pub struct Came {
+    pub target: Address,
+}
 
 // Has drive i failed?
 pub fn is_failed(image: &[u8], g: Geometry, i: usize) -> bool
@@ -25,7 +30,7 @@ pub fn address(image: &[u8], g: Geometry, i: usize) -> Address
 }
 
 // The drive with address a, compared as a whole number: one above FFFFFFh is no drive's.
-pub fn find_drive(image: &[u8], g: Geometry, a: Address) -> Found
+fn find_drive(image: &[u8], g: Geometry, a: Address) -> Found
     requires { ⌜ Framed (now image) g ⌝ }
     ensures { λ r. ⌜ r ≡ driveOf (now (image .entry)) g (a .0) ⌝ }
 {
@@ -39,6 +44,30 @@ pub fn find_drive(image: &[u8], g: Geometry, a: Address) -> Found
         i += 1;
     }
     Found::Nothing
+}
+
+// The drive that a command was sent to.
+pub fn find_target(image: &[u8], g: Geometry, came: Came) -> Found
+    requires { ⌜ Framed (now image) g ⌝ }
+    ensures { λ r. ⌜ r ≡ targetOf (now (image .entry)) g came ⌝ }
+{
+    find_drive(image, g, came.target)
+}
+
+// The drive that a command names as its secondary.
+pub fn find_secondary(image: &[u8], g: Geometry, came: Came, address: Address) -> Found
+    requires { ⌜ Framed (now image) g ⌝ }
+    ensures { λ r. ⌜ r ≡ secondaryOf (now (image .entry)) g came (address .0) ⌝ }
+{
+    find_drive(image, g, address)
+}
+
+// The drive that a source entry names.
+pub fn find_source(image: &[u8], g: Geometry, came: Came, address: Address) -> Found
+    requires { ⌜ Framed (now image) g ⌝ }
+    ensures { λ r. ⌜ r ≡ sourceDrive (now (image .entry)) g came (address .0) ⌝ }
+{
+    find_drive(image, g, address)
 }
 
 // Is every state 0 or 1?

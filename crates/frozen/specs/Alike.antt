@@ -10,6 +10,7 @@ use Rattle.folds.specs.declared.Found.the-variants.{At}
 use Rattle.folds.specs.Every.{every}
 use Rattle.geometry.specs.declared.Geometry.{Geometry}
 use Rattle.geometry.specs.Header.{geometryOf, rangesOk, offsetsOk, framedOk, slotAt, place}
+use Rattle.drives.specs.declared.Came.{Came}
 use Rattle.drives.specs.Table.{statesOk, newAddress, addressesOk, tableOk, driveOf}
 use Rattle.slots.specs.declared.Slot.{Slot}
 use Rattle.slots.specs.declared.Best.{Best}
@@ -39,10 +40,6 @@ unfolding validImage framedOk rangesOk offsetsOk tableOk statesOk newAddress add
 valid-alike m = refl
 
 module _ (m : List ℕ) (h : old.Header) where
-  pub drive-alike : (a : ℕ) → driveOf m (geo h) a ≡ old.driveOf m h a
-  unfolding driveOf
-  drive-alike a = refl
-
   pub count-alike : usedCount m (geo h) ≡ old.usedCount m h
   unfolding slotOf slotAt
   count-alike = refl
@@ -93,12 +90,12 @@ module _ (h : old.Header) where
 
 -- ---- the sources
 
-module _ (m : List ℕ) (h : old.Header) (s : List ℕ) (n : ℕ) where
-  operands-alike : (i left : ℕ) → sourcesFrom m (geo h) s n i left ≡ was.operandsFrom m h s n i left
+module _ (m : List ℕ) (h : old.Header) (a : Came) (s : List ℕ) (n : ℕ) where
+  operands-alike : (i left : ℕ) → sourcesFrom m (geo h) a s n i left ≡ was.operandsFrom m h s n i left
   unfolding sourcesFrom sourceOf driveOf place was.operandsFrom
   operands-alike i zero = refl
   operands-alike i (suc left) = ap (λ (xs : List (List ℕ)). was.blocksNamed m h s n i ∷ xs) (operands-alike (i + 1) left)
 
-  pub gathered-alike : (c : List ℕ) → gathered m (geo h) s n (was.sources s) (was.int c) ≡ was.gathered m h c s n
+  pub gathered-alike : (c : List ℕ) → gathered m (geo h) s n (record { int = was.int c; came = a }) ≡ was.gathered m h c s n
   unfolding gathered
   gathered-alike c = ap (λ (xs : List (List ℕ)). xorAll (xs ++ was.intData h c s n)) (operands-alike 0 (was.sources s))

@@ -9,6 +9,7 @@ use Rattle.folds.specs.declared.Found.{Found}
 use Rattle.folds.specs.declared.Found.the-variants.{At, Nothing}
 use Rattle.rules.specs.Rule.{Rule, rule, first, first-append}
 use Rattle.folds.specs.Least.{index}
+use Rattle.drives.specs.declared.Came.{Came}
 use Rattle.drives.specs.Table.{driveOf, failed}
 use Rattle.sense.specs.declared.Answer.{Answer}
 use Rattle.sense.specs.declared.Answer.the-variants.{NestedAddress, NestedFailed, NestedRange}
@@ -61,10 +62,10 @@ module _ {D : Type 0} (stop : ℕ → Unit {0} → told.Answer → D) (m : List 
       pick false true = refl
       pick false false = refl
 
-  pub sources-alike : (s : List ℕ) (i left : ℕ) (d : D) → first stop (was.sourceChecks m h s n i left) d ≡ byFault (firstBad m (geo h) s n i left) d
+  pub sources-alike : (a : Came) (s : List ℕ) (i left : ℕ) (d : D) → first stop (was.sourceChecks m h s n i left) d ≡ byFault (firstBad m (geo h) a s n i left) d
   unfolding was.sourceChecks firstBad entryBad sourceOf driveOf
-  sources-alike s i zero d = refl
-  sources-alike s i (suc left) d =
+  sources-alike a s i zero d = refl
+  sources-alike a s i (suc left) d =
       first-append stop (was.entryChecks m h n (was.sourceBlock s i) (old.driveOf m h (was.sourceAddress s i))) (was.sourceChecks m h s n (i + 1) left) d
-      ∙ ap (first stop (was.entryChecks m h n (was.sourceBlock s i) (old.driveOf m h (was.sourceAddress s i)))) (sources-alike s (i + 1) left d)
-      ∙ entry i (was.sourceBlock s i) (old.driveOf m h (was.sourceAddress s i)) (firstBad m (geo h) s n (i + 1) left) d
+      ∙ ap (first stop (was.entryChecks m h n (was.sourceBlock s i) (old.driveOf m h (was.sourceAddress s i)))) (sources-alike a s (i + 1) left d)
+      ∙ entry i (was.sourceBlock s i) (old.driveOf m h (was.sourceAddress s i)) (firstBad m (geo h) a s n (i + 1) left) d

@@ -14,7 +14,7 @@ use Rattle.rules.specs.Rule.{rule, first, first-append}
 use Rattle.folds.specs.Least.{index}
 use Rattle.geometry.specs.declared.Geometry.{Geometry}
 use Rattle.geometry.specs.Header.{geometryOf, rangesOk, offsetsOk, framedOk, slotAt, place}
-use Rattle.drives.specs.Table.{statesOk, newAddress, addressesOk, tableOk, driveOf, marked}
+use Rattle.drives.specs.Table.{statesOk, newAddress, addressesOk, tableOk, driveOf, to, marked}
 use Rattle.slots.specs.Record.{slotOf}
 use Rattle.slots.specs.Record as slots
 use Rattle.slots.specs.Slots.{slotOk, eachOk, ranksOk, slotsOk}
@@ -78,15 +78,15 @@ module _ (m : List ℕ) (a : ℕ) (c s r : List ℕ) where
   ahead size = signed.calls m a ++ signed.known m h t size c
 
   abbrev Same : Op → was.Plan → Type 0
-  Same o p = view (decideFor o m a c s (length r)) ≡ signed.byPlan p m a c r
+  Same o p = view (decideFor o m (to a) c s (length r)) ≡ signed.byPlan p m a c r
 
   -- the lists are alike, and so is what stands where no check applies
-  by-lists : (o : Op) (p : was.Plan) (us : List was.Check) → map forget (checks o m a c s (length r)) ≡ us
-      → first refuse us (view (carriedOut o m a c s)) ≡ signed.byPlan p m a c r → Same o p
+  by-lists : (o : Op) (p : was.Plan) (us : List was.Check) → map forget (checks o m (to a) c s (length r)) ≡ us
+      → first refuse us (view (carriedOut o m (to a) c s)) ≡ signed.byPlan p m a c r → Same o p
   by-lists o p us e q =
-      first-view view Stop (checks o m a c s (length r)) (carriedOut o m a c s)
-      ∙ sym (first-forget refuse (checks o m a c s (length r)) (view (carriedOut o m a c s)))
-      ∙ ap (λ (rs : List was.Check). first refuse rs (view (carriedOut o m a c s))) e
+      first-view view Stop (checks o m (to a) c s (length r)) (carriedOut o m (to a) c s)
+      ∙ sym (first-forget refuse (checks o m (to a) c s (length r)) (view (carriedOut o m (to a) c s)))
+      ∙ ap (λ (rs : List was.Check). first refuse rs (view (carriedOut o m (to a) c s))) e
       ∙ q
 
   abbrev carry : was.Done → signed.Outcome
@@ -143,15 +143,15 @@ module _ (m : List ℕ) (a : ℕ) (c s r : List ℕ) where
   -- REBUILD and REGENERATE: the checks in front of the source entries' are alike, and then those
   abbrev before : Op → List Check
   before o =
-      calls m a
+      calls m (to a)
       ++ cdbCalls o c
       ++ known m g t o
-      ++ fields o m g t (commandOf o c)
-      ++ rule 5 Dash (not (eqb (length s) (sends o g (commandOf o c)))) WrongCount
-      ∷ idle o (commandOf o c)
-      ++ lists o m g t (commandOf o c) s
-      ++ ranges o m g t (commandOf o c) s
-      ++ busy o m g (commandOf o c)
+      ++ fields o m g t (commandOf o (to a) c)
+      ++ rule 5 Dash (not (eqb (length s) (sends o g (commandOf o (to a) c)))) WrongCount
+      ∷ idle o (commandOf o (to a) c)
+      ++ lists o m g t (commandOf o (to a) c) s
+      ++ ranges o m g t (commandOf o (to a) c) s
+      ++ busy o m g (commandOf o (to a) c)
 
   abbrev n : ℕ
   n = was.resolved c s h
@@ -160,30 +160,30 @@ module _ (m : List ℕ) (a : ℕ) (c s r : List ℕ) where
   entries = was.sourceChecks m h s n 0 (was.sources s)
 
   by-entries : (rs : List Check) (us : List was.Check) (d : Decision) (e : signed.Outcome) → map forget rs ≡ us → view d ≡ e
-      → view (first Stop (rs ++ sourceRules (firstBad m g s n 0 (was.sources s))) d) ≡ first refuse (us ++ entries) e
+      → view (first Stop (rs ++ sourceRules (firstBad m g (to a) s n 0 (was.sources s))) d) ≡ first refuse (us ++ entries) e
   by-entries rs us d e p q =
-      let f = firstBad m g s n 0 (was.sources s) in
+      let f = firstBad m g (to a) s n 0 (was.sources s) in
       first-view view Stop (rs ++ sourceRules f) d
       ∙ first-append (λ k w x. view (Stop k w x)) rs (sourceRules f) (view d)
       ∙ sym (first-forget refuse rs (byFault refuse m h n f (view d)))
       ∙ ap (λ (xs : List was.Check). first refuse xs (byFault refuse m h n f (view d))) p
-      ∙ ap (first refuse us) (sym (sources-alike refuse m h n s 0 (was.sources s) (view d)))
+      ∙ ap (first refuse us) (sym (sources-alike refuse m h n (to a) s 0 (was.sources s) (view d)))
       ∙ sym (first-append refuse us entries (view d))
       ∙ ap (first refuse (us ++ entries)) q
 
   rebuild : Same Rebuild (was.rebuild m h t c s)
   unfolding validImage framedOk rangesOk offsetsOk tableOk statesOk newAddress addressesOk slotsOk eachOk ranksOk slotOk slotOf slotAt place driveOf listedOf ownOf resolvedOf listBytes sourceOf ownEntry noSense plainSense toBe
   rebuild =
-      by-entries (before Rebuild) (ahead 10 ++ was.listChecks m h t c s (not (eqb (was.int c) 0) && eqb (be 4 c 2) 0xFFFFFFFF)) (carriedOut Rebuild m a c s)
+      by-entries (before Rebuild) (ahead 10 ++ was.listChecks m h t c s (not (eqb (was.int c) 0) && eqb (be 4 c 2) 0xFFFFFFFF)) (carriedOut Rebuild m (to a) c s)
       (carry (was.rebuild m h t c s .done)) refl
-      (ap (λ (x : List ℕ). carry (was.leaves (put m (old.blockAt h t (was.own s)) x))) (gathered-alike m h s n c))
+      (ap (λ (x : List ℕ). carry (was.leaves (put m (old.blockAt h t (was.own s)) x))) (gathered-alike m h (to a) s n c))
 
   regenerate : Same Regenerate (was.regenerate m h t c s)
   unfolding validImage framedOk rangesOk offsetsOk tableOk statesOk newAddress addressesOk slotsOk eachOk ranksOk slotOk slotOf slotAt place driveOf emptySlot slots.bytesOf listedOf ownOf resolvedOf listBytes sourceOf ownEntry noSense plainSense toBe
   regenerate =
       by-entries (before Regenerate) (ahead 10 ++ was.listChecks m h t c s (ltb (h .M) (be 4 c 2)) ++ was.check 9 (was.isNothing (then.emptySlot m h)) told.busy ∷ [])
-      (carriedOut Regenerate m a c s) (carry (was.regenerate m h t c s .done)) refl
-      (ap (λ (x : List ℕ). carry (was.leaves (then.retainedOver m m h (index (then.emptySlot m h)) 2 t (was.own s) n (old.blocks m h t (was.own s) n ⊻ x)))) (gathered-alike m h s n c))
+      (carriedOut Regenerate m (to a) c s) (carry (was.regenerate m h t c s .done)) refl
+      (ap (λ (x : List ℕ). carry (was.leaves (then.retainedOver m m h (index (then.emptySlot m h)) 2 t (was.own s) n (old.blocks m h t (was.own s) n ⊻ x)))) (gathered-alike m h (to a) s n c))
 
   -- "Code | Command": by 01's table alone
   line : (b : Bool) (o o′ : Op) (p p′ : was.Plan) → Same o p → Same o′ p′ → Same (cond b o o′) (cond b p p′)
@@ -201,38 +201,38 @@ module _ (m : List ℕ) (a : ℕ) (c s r : List ℕ) where
       (line (eqb code 0x2A) Write Unknown (was.write m h t c s (length r)) unknown (plain .1) (plain .3)))))))
 
   -- a CDB whose first byte is not 50h to 53h, an empty one too
-  pub step-as-signed : isPublished (getD c 0 0) ≡ false → shown (stepOutcome m a c s r) (stepImage m a c s r) (stepRoom m a c s r) ≡ signed.step m a c s r
+  pub step-as-signed : isPublished (getD c 0 0) ≡ false → shown (stepOutcome m (to a) c s r) (stepImage m (to a) c s r) (stepRoom m (to a) c s r) ≡ signed.step m a c s r
   unfolding decideOf stepOutcome stepImage stepRoom
-  step-as-signed q = ap (λ (o : Op). view (decideFor o m a c s (length r))) (same-op (getD c 0 0) q) ∙ by-code (getD c 0 0)
+  step-as-signed q = ap (λ (o : Op). view (decideFor o m (to a) c s (length r))) (same-op (getD c 0 0) q) ∙ by-code (getD c 0 0)
 
 -- ---- a reset and a marking, every one
 
 module _ (m : List ℕ) (a : ℕ) where
   abbrev called : Type 0
-  called = map forget (calls m a) ≡ signed.calls m a
+  called = map forget (calls m (to a)) ≡ signed.calls m a
 
   calls-alike : called
   unfolding validImage framedOk rangesOk offsetsOk tableOk statesOk newAddress addressesOk slotsOk eachOk ranksOk slotOk slotOf slotAt driveOf noSense
   calls-alike = refl
 
-  pub reset-as-signed : (bytesOf (resetAnswer m a) ≡ signed.resetAnswer m a) × (resetImage m a ≡ signed.resetImage m a)
+  pub reset-as-signed : (bytesOf (resetAnswer m (to a)) ≡ signed.resetAnswer m a) × (resetImage m (to a) ≡ signed.resetImage m a)
   unfolding resetAnswer resetImage noSense driveOf
   reset-as-signed = (
-    first-view bytesOf answered (calls m a) Good
-        ∙ sym (first-forget signed.told (calls m a) (bytesOf Good))
+    first-view bytesOf answered (calls m (to a)) Good
+        ∙ sym (first-forget signed.told (calls m (to a)) (bytesOf Good))
         ∙ ap (λ (xs : List was.Check). first signed.told xs told.good) calls-alike,
-    ap (first (untouched m) (calls m a)) (dropped-alike (old.headerOf m) m (index (old.driveOf m (old.headerOf m) a)))
-        ∙ sym (first-forget (signed.kept m) (calls m a) (signed.resetLeaves m a))
+    ap (first (untouched m) (calls m (to a))) (dropped-alike (old.headerOf m) m (index (old.driveOf m (old.headerOf m) a)))
+        ∙ sym (first-forget (signed.kept m) (calls m (to a)) (signed.resetLeaves m a))
         ∙ ap (λ (xs : List was.Check). first (signed.kept m) xs (signed.resetLeaves m a)) calls-alike,
   )
 
-  pub mark-as-signed : (state : ℕ) → (bytesOf (markAnswer m a state) ≡ signed.markAnswer m a state) × (markImage m a state ≡ signed.markImage m a state)
+  pub mark-as-signed : (state : ℕ) → (bytesOf (markAnswer m (to a) state) ≡ signed.markAnswer m a state) × (markImage m (to a) state ≡ signed.markImage m a state)
   unfolding markAnswer markImage marked noSense driveOf
   mark-as-signed state =
-      let both : map forget (markCalls m a state) ≡ signed.markCalls m a state = ap (λ (xs : List was.Check). xs ++ was.check 1 (ltb 1 state) (told.call 6) ∷ []) calls-alike in (
-        first-view bytesOf answered (markCalls m a state) Good
-            ∙ sym (first-forget signed.told (markCalls m a state) (bytesOf Good))
+      let both : map forget (markCalls m (to a) state) ≡ signed.markCalls m a state = ap (λ (xs : List was.Check). xs ++ was.check 1 (ltb 1 state) (told.call 6) ∷ []) calls-alike in (
+        first-view bytesOf answered (markCalls m (to a) state) Good
+            ∙ sym (first-forget signed.told (markCalls m (to a) state) (bytesOf Good))
             ∙ ap (λ (xs : List was.Check). first signed.told xs told.good) both,
-        sym (first-forget (signed.kept m) (markCalls m a state) (signed.markLeaves m a state))
+        sym (first-forget (signed.kept m) (markCalls m (to a) state) (signed.markLeaves m a state))
             ∙ ap (λ (xs : List was.Check). first (signed.kept m) xs (signed.markLeaves m a state)) both,
       )

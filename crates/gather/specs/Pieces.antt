@@ -30,7 +30,7 @@ intPiece int sent at k = cond (eqb int 0) [] (part sent at k)
 -- all operands
 unfoldable pub sumPiece : List ℕ → List ℕ → List ℕ → Job → ℕ → ℕ → List ℕ
 sumPiece s places sent j o k =
-    seedPiece s (j .own) (j .from + o) k ⊻ xorAll (piecesFrom s places o k 0 (j .sources)) ⊻ intPiece (j .int) sent (8 + 8 * j .sources + o) k
+    seedPiece s (j .own) (j .from + o) k ⊻ xorAll (piecesFrom s places o k 0 (j .sources)) ⊻ intPiece (j .sum .int) sent (8 + 8 * j .sources + o) k
 
 -- ---- what the code needs
 
@@ -43,7 +43,7 @@ pub record Within (s places : List ℕ) (entries n : ℕ) : Type 0 where
 pub record Laid (s places sent : List ℕ) (j : Job) (n : ℕ) : Type 0 where
   pub sources-in : Within s places (j .sources) n
   pub long : 8 + 8 * j .sources ≤ length sent
-  pub exact : eqb (j .int) 0 ≡ false → length sent ≡ 8 + 8 * j .sources + n
+  pub exact : eqb (j .sum .int) 0 ≡ false → length sent ≡ 8 + 8 * j .sources + n
   pub own-in : j .from + n ≤ length s
   pub to-in : j .to + n ≤ length s
   pub own-apart : j .own ≡ true → Apart (j .from) (j .to) n

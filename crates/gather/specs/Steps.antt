@@ -108,10 +108,10 @@ module _ (s places sent : List ℕ) (j : Job) (o : ℕ) where
 
   pub piece-in-turn : (acc a b c t : List ℕ) → a ≡ seedPiece s (j .own) (j .from + o) (length acc) → length a ≡ length acc
       → b ≡ a ⊻ xorAll (piecesFrom s places o (length a) 0 (j .sources)) → length b ≡ length a
-      → c ≡ b ⊻ intPiece (j .int) sent (8 + 8 * j .sources + o) (length b)
+      → c ≡ b ⊻ intPiece (j .sum .int) sent (8 + 8 * j .sources + o) (length b)
       → t ≡ put s (j .to + o) c → t ≡ put s (j .to + o) (sumPiece s places sent j o (length acc))
   unfolding sumPiece
   piece-in-turn acc a b c t ae al be bl ce te =
       let q : b ≡ seedPiece s (j .own) (j .from + o) (length acc) ⊻ xorAll (piecesFrom s places o (length acc) 0 (j .sources)) =
       be ∙ ap₂ (λ (u : List ℕ) (m : ℕ). u ⊻ xorAll (piecesFrom s places o m 0 (j .sources))) ae al in
-      te ∙ ap (put s (j .to + o)) (ce ∙ ap₂ (λ (u : List ℕ) (m : ℕ). u ⊻ intPiece (j .int) sent (8 + 8 * j .sources + o) m) q (bl ∙ al))
+      te ∙ ap (put s (j .to + o)) (ce ∙ ap₂ (λ (u : List ℕ) (m : ℕ). u ⊻ intPiece (j .sum .int) sent (8 + 8 * j .sources + o) m) q (bl ∙ al))

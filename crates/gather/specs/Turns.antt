@@ -40,11 +40,11 @@ module _ (a n o k : ℕ) (h : o + k ≤ n) where
   sum-part s places sent j =
       let x = seedPiece s (j .own) (j .from + a) n in
       let y = xorAll (piecesFrom s places a n 0 (j .sources)) in
-      let z = intPiece (j .int) sent (8 + 8 * j .sources + a) n in
+      let z = intPiece (j .sum .int) sent (8 + 8 * j .sources + a) n in
       part-xor (x ⊻ y) z o k
       ∙ ap₂ (λ (u v : List ℕ). u ⊻ v)
       (part-xor x y o k ∙ ap₂ (λ (u v : List ℕ). u ⊻ v) (seed-part s (j .own) (j .from)) (pieces-part s places 0 (j .sources)))
-      (int-part sent (8 + 8 * j .sources) (eqb (j .int) 0))
+      (int-part sent (8 + 8 * j .sources) (eqb (j .sum .int) 0))
 
 -- ---- what is written where the XOR goes leaves what is yet to be read
 
@@ -64,7 +64,7 @@ module _ (s : List ℕ) (to n o k : ℕ) (ys : List ℕ) (h : o + k ≤ n) (shor
   sum-kept : (places sent : List ℕ) (j : Job) → j .to ≡ to → Laid s places sent j n → sumPiece (put s to ys) places sent j o k ≡ sumPiece s places sent j o k
   unfolding sumPiece
   sum-kept places sent j e r =
-      ap₂ (λ (x : List ℕ) (xs : List (List ℕ)). x ⊻ xorAll xs ⊻ intPiece (j .int) sent (8 + 8 * j .sources + o) k)
+      ap₂ (λ (x : List ℕ) (xs : List (List ℕ)). x ⊻ xorAll xs ⊻ intPiece (j .sum .int) sent (8 + 8 * j .sources + o) k)
       (seed-kept (j .own) (j .from) (λ t. rw (sym e) (r .own-apart t)))
       (pieces-kept places 0 (j .sources) (λ i l. rw (sym e) (r .apart i (omega arith))))
 

@@ -4,6 +4,7 @@ mod operands;
 mod sources;
 
 use geometry::Geometry;
+use meaning::Sum;
 ghost use mathlib.Core.Path.{_≡_};
 ghost use Prim.Native.Nat.{_+_, _<_, _≤_};
 ghost use lib.ListN.{length};
@@ -11,7 +12,7 @@ ghost use Rattle.octets.specs.Put.{put};
 ghost use Rattle.gather.specs.Job.{summed, Ready};
 ghost use Rattle.gather.specs.Pieces.{sumPiece, Laid};
 
-// What is gathered: the sources of a list and, with int, the bytes after the list, `count` blocks of
+// What is gathered: the sources of a list and, with Int Data, the bytes after the list, `count` blocks of
 // each; with own the blocks at index from besides. The XOR goes to index to.
 pub struct Job {
     pub own: bool,
@@ -19,7 +20,7 @@ pub struct Job {
     pub to: usize,
     pub count: usize,
     pub sources: usize,
-    pub int: usize,
+    pub sum: Sum,
 }
 
 // The XOR goes to its place. A list has at most 255 entries. The two arrays live here.
@@ -29,7 +30,7 @@ pub fn gather(image: &mut [u8], g: Geometry, sent: &[u8], j: Job)
 {
     let mut places = [0usize; 255];
     let mut piece = [0u8; 512];
-    sources::find_all(image, g, sent, j.sources, &mut places);
+    sources::find_all(image, g, j.sum.came, sent, j.sources, &mut places);
     gather_by(image, &places, sent, j, j.count * g.l, &mut piece);
 }
 
@@ -80,6 +81,6 @@ fn gather_piece(
     let to = j.to + o;
     operands::seed(acc, image, j.own, from);
     operands::xor_sources(acc, image, places, 0, j.sources, o);
-    operands::xor_int(acc, j.int, sent, 8 + 8 * j.sources, o);
+    operands::xor_int(acc, j.sum.int, sent, 8 + 8 * j.sources, o);
     octets::put_at(image, to, acc);
 }

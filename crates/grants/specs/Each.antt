@@ -12,7 +12,7 @@ use Rattle.folds.specs.declared.Found.the-variants.{At, Nothing}
 use Rattle.folds.specs.Least.{index}
 use Rattle.geometry.specs.declared.Geometry.{Geometry}
 use Rattle.geometry.specs.Places.{Range}
-use Rattle.drives.specs.Table.{driveOf, failed}
+use Rattle.drives.specs.Table.{secondaryOf, failed}
 use Rattle.drives.specs.Lookup.{drive-inside}
 use Rattle.slots.specs.Record.{slotOf}
 use Rattle.slots.specs.Find.{emptySlot, newestOf}
@@ -33,7 +33,7 @@ use Rattle.meaning.specs.declared.Seen.{Seen}
 use Rattle.meaning.specs.declared.Fault.the-variants.{Clear}
 use Rattle.meaning.specs.declared.Decision.the-variants.{Stop, Go}
 use Rattle.meaning.specs.Sources.{ownEntry, firstBad}
-use Rattle.meaning.specs.Checks.{isNothing, acts, resolved, spanOf, secondOf}
+use Rattle.meaning.specs.Checks.{isNothing, acts, resolved, spanOf, secondOf, sumOf}
 use Rattle.meaning.specs.Allowed.{Blocks, Held, Free, empty-free, Sourced, Allowed}
 use Rattle.grants.specs.Passed.{not-zero, with-it, without-it, found, elsewhere, clear, Passed, SecondFields, second-fields, ListRead, list-read}
 use Rattle.grants.specs.Entries.{entries}
@@ -46,8 +46,8 @@ worksOn (ToXpWrite x) = x .drive
 worksOn (ToXdRead x i) = x .drive
 worksOn (Couple x y mirror) = x .drive
 worksOn (Retain x i mirror ndisc) = x .drive
-worksOn (ToRebuild x n int) = x .drive
-worksOn (ToRegenerate x n int i) = x .drive
+worksOn (ToRebuild x j) = x .drive
+worksOn (ToRegenerate x j i) = x .drive
 worksOn (ToXdWriteRead x disable) = x .drive
 
 pub no-stop : (n : ℕ) (w : Seen) (z : Answer) (x : Act) (y : Answer) → Stop n w z ≡ Go x y → ⊥
@@ -106,15 +106,15 @@ module _ (m : List ℕ) (g : Geometry) (t : ℕ) (s : List ℕ) (r : ℕ) (v : S
 
       pick : (b : Bool) → eqb (secOf k) 3 ≡ b
           → cond b (Go (Retain (spanOf t k) (index (emptySlot m g)) (mirrorOf k) (ndiscOf k)) Good)
-          (Go (Couple (spanOf t k) (secondOf (driveOf m g (k .second .0)) k) (mirrorOf k)) Good) ≡ Go x y
+          (Go (Couple (spanOf t k) (secondOf (secondaryOf m g (k .came) (k .second .0)) k) (mirrorOf k)) Good) ≡ Go x y
           → Grants m g t s r x y
       pick true q e =
           just m g t s r x _ y e refl
           (own k (not-zero _ (p .idle-pass .0)) (ltb-false _ _ (p .range-pass .0)), p .sent, f .at-most, free (with-it (eqb (secOf k) 3) _ q (p .busy-pass .0)))
       pick false q e =
           let unless : (z : Bool) → (not (eqb (secOf k) 3) && z) ≡ false → z ≡ false = (λ z h. without-it (eqb (secOf k) 3) z q h) in
-          let there-is = found (driveOf m g (k .second .0)) (unless _ (p .nested-pass .0)) in
-          let there : Range g (index (driveOf m g (k .second .0))) (k .spot .0) (k .count) =
+          let there-is = found (secondaryOf m g (k .came) (k .second .0)) (unless _ (p .nested-pass .0)) in
+          let there : Range g (index (secondaryOf m g (k .came) (k .second .0))) (k .spot .0) (k .count) =
           record { drive-in = drive-inside m g _ _ there-is .0; range-in = ltb-false _ _ (unless _ (p .nested-pass .1 .1 .0)) } in
           just m g t s r x _ y e refl (
             own k (not-zero _ (p .idle-pass .0)) (ltb-false _ _ (p .range-pass .0)),
@@ -134,14 +134,14 @@ module _ (m : List ℕ) (g : Geometry) (t : ℕ) (s : List ℕ) (r : ℕ) (v : S
 
   module _ (k : Command) where
     -- the list and what follows it
-    sourced : length s ≡ listBytes k (g .l) → eqb (k .list) 0 ≡ false → ListRead m g t k s → firstBad m g s (resolved g k s .count) 0 (getD s 0 0) ≡ Clear
+    sourced : length s ≡ listBytes k (g .l) → eqb (k .list) 0 ≡ false → ListRead m g t k s → firstBad m g (k .came) s (resolved g k s .count) 0 (getD s 0 0) ≡ Clear
         → (eqb (intOf k) 0 ≡ false → resolved g k s .count ≡ k .count)
-        → Sourced m g (spanOf t (resolved g k s)) (getD s 0 0) (intOf k) s
+        → Sourced m g (spanOf t (resolved g k s)) (sumOf k) s
     sourced len list l bad same =
         record {
           some-source = not-zero _ (l .some-source);
           exact = sent-exact k (g .l) (getD s 0 0) _ (length s) len (eqb-false _ _ list) (l .as-long) same;
-          each = entries m g s (spanOf t (resolved g k s)) (getD s 0 0) bad (l .none-own);
+          each = entries m g (k .came) s (spanOf t (resolved g k s)) (getD s 0 0) bad (l .none-own);
         }
 
     -- the target's blocks, from the list's own block on

@@ -13,7 +13,8 @@ use Rattle.rules.specs.Rule.{rule}
 use Rattle.folds.specs.Least.{index}
 use Rattle.geometry.specs.declared.Geometry.{Geometry}
 use Rattle.geometry.specs.Header.{geometryOf}
-use Rattle.drives.specs.Table.{driveOf}
+use Rattle.drives.specs.declared.Came.{Came}
+use Rattle.drives.specs.Table.{targetOf}
 use Rattle.sense.specs.declared.Answer.the-variants.{Good}
 use Rattle.sense.specs.Answers.{numberOf}
 use Rattle.command.specs.declared.Op.{Op}
@@ -44,7 +45,7 @@ fault-fine (Absent i) = refl
 fault-fine (Failed i k) = refl
 fault-fine (Beyond i) = refl
 
-checks-fine : (o : Op) (m : List ℕ) (g : Geometry) (a t : ℕ) (c s : List ℕ) (r : ℕ) → allFine (checksFor o m g a t c s r) ≡ true
+checks-fine : (o : Op) (m : List ℕ) (g : Geometry) (a : Came) (t : ℕ) (c s : List ℕ) (r : ℕ) → allFine (checksFor o m g a t c s r) ≡ true
 unfolding every
 checks-fine XdWrite m g a t c s r = refl
 checks-fine XpWrite m g a t c s r = refl
@@ -57,12 +58,12 @@ checks-fine XdWriteTen m g a t c s r = refl
 checks-fine XdWriteRead m g a t c s r = refl
 checks-fine Unknown m g a t c s r = refl
 
-pub good-idle : (m : List ℕ) (a : ℕ) (c s : List ℕ) (r n : ℕ) (w : Seen) → decideOf m a c s r ≡ Stop n w Good → (n ≡ 6) ⊎ (n ≡ 7)
+pub good-idle : (m : List ℕ) (a : Came) (c s : List ℕ) (r n : ℕ) (w : Seen) → decideOf m a c s r ≡ Stop n w Good → (n ≡ 6) ⊎ (n ≡ 7)
 good-idle m a c s r n w e =
     let h = why m a c s r n w Good e in
     let g = geometryOf m in
     let o = opOf (getD c 0 0) in
-    let all = checks-fine o m g a (index (driveOf m g a)) c s r in
+    let all = checks-fine o m g a (index (targetOf m g a)) c s r in
     let x : Check = rule 0 Dash false Good in
     let f : fine (rule n w true Good) ≡ true =
     ap fine (sym (h .itself x)) ∙ sym (List·getD-map fine (checks o m a c s r) (h .place) x) ∙ holds (map fine (checks o m a c s r)) (h .place) all in

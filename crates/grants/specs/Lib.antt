@@ -4,4 +4,3 @@ pub mod Each
 pub mod Granted
 pub mod Why
 pub mod Good
-pub mod Few

@@ -12,7 +12,7 @@ use Rattle.folds.specs.declared.Found.the-variants.{At, Nothing}
 use Rattle.folds.specs.Least.{index}
 use Rattle.rules.specs.Rule.{rule, AllPass, pass-both}
 use Rattle.geometry.specs.declared.Geometry.{Geometry}
-use Rattle.drives.specs.Table.{driveOf}
+use Rattle.drives.specs.Table.{secondaryOf}
 use Rattle.sense.specs.declared.Answer.the-variants.{Good, WrongCount}
 use Rattle.command.specs.declared.Op.{Op}
 use Rattle.command.specs.declared.Op.the-variants.{XdWrite}
@@ -98,7 +98,7 @@ passed-by o m g t k s room p =
 -- of the checks of fields, those that grant something: XDWRITE's length and secondary, the other lengths
 pub record SecondFields (m : List ℕ) (g : Geometry) (t : ℕ) (k : Command) : Type 0 where
   pub at-most : k .count ≤ g .m
-  pub not-own : (not (eqb (secOf k) 3) && isAt t (driveOf m g (k .second .0))) ≡ false
+  pub not-own : (not (eqb (secOf k) 3) && isAt t (secondaryOf m g (k .came) (k .second .0))) ≡ false
 
 pub second-fields : (m : List ℕ) (g : Geometry) (t : ℕ) (k : Command) → AllPass (fields XdWrite m g t k) → SecondFields m g t k
 second-fields m g t k p = record { at-most = ltb-false _ _ (p .1 .1 .1 .0); not-own = p .1 .1 .1 .1 .0 }
@@ -107,14 +107,14 @@ second-fields m g t k p = record { at-most = ltb-false _ _ (p .1 .1 .1 .0); not-
 pub record ListRead (m : List ℕ) (g : Geometry) (t : ℕ) (k : Command) (s : List ℕ) : Type 0 where
   pub as-long : k .list ≡ 8 + 8 * getD s 0 0
   pub some-source : eqb (getD s 0 0) 0 ≡ false
-  pub none-own : ownEntry m g s (getD s 0 0) t ≡ Nothing
+  pub none-own : ownEntry m g (k .came) s (getD s 0 0) t ≡ Nothing
   pub some-block : eqb (k .count) 0 ≡ false
 
 pub list-read : (m : List ℕ) (g : Geometry) (t : ℕ) (k : Command) (s : List ℕ) → AllPass (listRules m g t k s) → ListRead m g t k s
 list-read m g t k s p =
     let none = rule 7 (Cdb 2) (eqb (k .count) 0) Good ∷ [] in
-    let l = pass-both (listLength k s) (listHead m g t s ++ none) p in
-    let h = pass-both (listHead m g t s) none (l .1) in
+    let l = pass-both (listLength k s) (listHead m g (k .came) t s ++ none) p in
+    let h = pass-both (listHead m g (k .came) t s) none (l .1) in
     record {
       as-long = eqb-true _ _ (not-false _ (l .0 .1 .0));
       some-source = h .0 .0;

@@ -12,7 +12,8 @@ use Rattle.rules.specs.Reason.{Reason, reason}
 use Rattle.folds.specs.Least.{index}
 use Rattle.geometry.specs.declared.Geometry.{Geometry}
 use Rattle.geometry.specs.Header.{geometryOf}
-use Rattle.drives.specs.Table.{driveOf}
+use Rattle.drives.specs.declared.Came.{Came}
+use Rattle.drives.specs.Table.{targetOf}
 use Rattle.sense.specs.declared.Answer.{Answer}
 use Rattle.command.specs.declared.Op.{Op}
 use Rattle.command.specs.declared.Op.the-variants.{XdWrite, XpWrite, XdRead, Rebuild, Regenerate, Read, Write, XdWriteTen, XdWriteRead, Unknown}
@@ -45,10 +46,10 @@ stop-apart : (n n′ : ℕ) (w w′ : Seen) (a a′ : Answer) → Stop n w a ≡
 stop-apart n n′ w w′ a a′ e = (cc, cc, cc)
 
 -- a stop names its reason
-pub why : (m : List ℕ) (a : ℕ) (c s : List ℕ) (r n : ℕ) (w : Seen) (y : Answer) → decideOf m a c s r ≡ Stop n w y
+pub why : (m : List ℕ) (a : Came) (c s : List ℕ) (r n : ℕ) (w : Seen) (y : Answer) → decideOf m a c s r ≡ Stop n w y
     → Reason (checks (opOf (getD c 0 0)) m a c s r) n w y
 unfolding decideOf
 why m a c s r n w y =
     let o = opOf (getD c 0 0) in
     reason Stop stop-apart (checks o m a c s r) (carriedOut o m a c s) n w y
-    (λ p. goes-on m (geometryOf m) (index (driveOf m (geometryOf m) a)) (commandOf o c) s n w y o (p .1 .1 .1 .1 .0))
+    (λ p. goes-on m (geometryOf m) (index (targetOf m (geometryOf m) a)) (commandOf o a c) s n w y o (p .1 .1 .1 .1 .0))

@@ -8,7 +8,8 @@ use borrow.Author.Tests.{lt-ltb, le-ltb}
 use Rattle.folds.specs.declared.Found.{Found}
 use Rattle.folds.specs.declared.Found.the-variants.{At, Nothing}
 use Rattle.geometry.specs.declared.Geometry.{Geometry}
-use Rattle.drives.specs.Table.{driveOf, failed}
+use Rattle.drives.specs.declared.Came.{Came}
+use Rattle.drives.specs.Table.{sourceDrive, failed}
 use Rattle.command.specs.declared.Source.{Source}
 use Rattle.command.specs.Command.{sourceOf}
 use Rattle.meaning.specs.declared.Fault.{Fault}
@@ -18,11 +19,11 @@ use Rattle.meaning.specs.Sources.{isAt, driveBad, entryBad, orNext, firstBad}
 -- ---- the first that is the target
 
 -- the test of entry i, as it was made
-pub own-is : (m : List ℕ) (g : Geometry) (s : List ℕ) (t i : ℕ) (y : Source) (f : Found) (b : Bool) → y ≡ sourceOf s i
-    → f ≡ driveOf m g (y .address .0)
+pub own-is : (m : List ℕ) (g : Geometry) (a : Came) (s : List ℕ) (t i : ℕ) (y : Source) (f : Found) (b : Bool) → y ≡ sourceOf s i
+    → f ≡ sourceDrive m g a (y .address .0)
     → b ≡ isAt t f
-    → isAt t (driveOf m g (sourceOf s i .address .0)) ≡ b
-own-is m g s t i y f b ey ef eb = sym (eb ∙ ap (isAt t) ef ∙ ap (λ (x : Source). isAt t (driveOf m g (x .address .0))) ey)
+    → isAt t (sourceDrive m g a (sourceOf s i .address .0)) ≡ b
+own-is m g a s t i y f b ey ef eb = sym (eb ∙ ap (isAt t) ef ∙ ap (λ (x : Source). isAt t (sourceDrive m g a (x .address .0))) ey)
 
 -- ---- the first that fails
 
@@ -35,15 +36,15 @@ left-suc n i h = omega arith
 left-none : (n i : ℕ) → n ≤ i → n - i ≡ 0
 left-none n i h = omega arith
 
-module _ (m : List ℕ) (g : Geometry) (s : List ℕ) (count : ℕ) where
-  pub bad-end : (i n : ℕ) → n ≤ i → firstBad m g s count i (n - i) ≡ Clear
+module _ (m : List ℕ) (g : Geometry) (a : Came) (s : List ℕ) (count : ℕ) where
+  pub bad-end : (i n : ℕ) → n ≤ i → firstBad m g a s count i (n - i) ≡ Clear
   unfolding firstBad
   bad-end i n h = rw (left-none n i h)
 
   -- the lookup of entry i gives f, which has the fault x
-  pub bad-at : (i n : ℕ) (y : Source) (f : Found) (x : Fault) → i < n → y ≡ sourceOf s i → driveOf m g (y .address .0) ≡ f
+  pub bad-at : (i n : ℕ) (y : Source) (f : Found) (x : Fault) → i < n → y ≡ sourceOf s i → sourceDrive m g a (y .address .0) ≡ f
       → driveBad m g count i (y .block .0) f ≡ x
-      → firstBad m g s count i (n - i) ≡ orNext x (firstBad m g s count (i + 1) (n - (i + 1)))
+      → firstBad m g a s count i (n - i) ≡ orNext x (firstBad m g a s count (i + 1) (n - (i + 1)))
   unfolding firstBad entryBad
   bad-at i n y f x h e d q = rw (left-suc n i h) (simp (← e, d, q))
 

@@ -1,5 +1,6 @@
 // Searches among the source entries of a parameter list: 01's checks 7 and 10.
 use command::Source;
+use drives::Came;
 use folds::Found;
 use geometry::Geometry;
 use meaning::Fault;
@@ -20,15 +21,15 @@ pub fn is_at(found: Found, t: usize) -> bool
 }
 
 // The first of n entries that is the target, drive t.
-pub fn own_entry(image: &[u8], g: Geometry, sent: &[u8], n: usize, t: usize) -> Found
+pub fn own_entry(image: &[u8], g: Geometry, came: Came, sent: &[u8], n: usize, t: usize) -> Found
     requires { ⌜ Framed (now image) g × (8 + 8 * n ≤ length (now sent)) ⌝ }
-    ensures { λ r. ⌜ r ≡ ownEntry (now (image .entry)) g (now (sent .entry)) n t ⌝ }
+    ensures { λ r. ⌜ r ≡ ownEntry (now (image .entry)) g came (now (sent .entry)) n t ⌝ }
 {
     let mut i = 0;
     while i < n {
         let source = Source::read(sent, i);
         let address = source.address;
-        if is_at(drives::find_drive(image, g, address), t) {
+        if is_at(drives::find_source(image, g, came, address), t) {
             return Found::At(i);
         }
         i += 1;
@@ -38,9 +39,9 @@ pub fn own_entry(image: &[u8], g: Geometry, sent: &[u8], n: usize, t: usize) -> 
 
 // What is wrong with the first of n entries that fails: its address is in no entry of the table, or
 // the drive has failed, or its `count` blocks pass the drive's end.
-pub fn first_bad(image: &[u8], g: Geometry, sent: &[u8], n: usize, count: usize) -> Fault
+pub fn first_bad(image: &[u8], g: Geometry, came: Came, sent: &[u8], n: usize, count: usize) -> Fault
     requires { ⌜ Framed (now image) g × (8 + 8 * n ≤ length (now sent)) × (count < 4294967296) ⌝ }
-    ensures { λ r. ⌜ r ≡ firstBad (now (image .entry)) g (now (sent .entry)) count 0 n ⌝ }
+    ensures { λ r. ⌜ r ≡ firstBad (now (image .entry)) g came (now (sent .entry)) count 0 n ⌝ }
 {
     let table = g.d;
     let blocks = g.b;

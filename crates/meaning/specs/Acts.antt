@@ -5,6 +5,7 @@ use Prim.Native.Nat.{ℕ, zero, suc, _+_, _*_}
 use mathlib.Core.List.{List, [], _∷_, _++_, map}
 use mathlib.Core.Bool.{Bool, cond}
 use lib.Dec.{eqb}
+use lib.ListN.{getD}
 use Rattle.octets.specs.Part.{part}
 use Rattle.octets.specs.Xor.{_⊻_}
 use Rattle.octets.specs.Operands.{xorAll}
@@ -12,13 +13,15 @@ use Rattle.folds.specs.Least.{index}
 use Rattle.geometry.specs.declared.Geometry.{Geometry}
 use Rattle.geometry.specs.Header.{slotAt, dataAt, place, blocksAt}
 use Rattle.geometry.specs.Stores.{Store, store, Slots, Media, stored}
-use Rattle.drives.specs.Table.{driveOf}
+use Rattle.drives.specs.declared.Came.{Came}
+use Rattle.drives.specs.Table.{sourceDrive}
 use Rattle.slots.specs.Record.{bytesOf}
 use Rattle.slots.specs.Slots.{usedCount}
 use Rattle.slots.specs.Change.{entry, goes}
 use Rattle.command.specs.declared.Source.{Source}
 use Rattle.command.specs.Command.{sourceOf}
 use Rattle.meaning.specs.declared.Span.{Span}
+use Rattle.meaning.specs.declared.Sum.{Sum}
 use Rattle.meaning.specs.declared.Act.{Act}
 use Rattle.meaning.specs.declared.Act.the-variants.{Read, Write, XpWrite, XdRead, Couple, Retain, Rebuild, Regenerate, XdWriteRead}
 
@@ -98,31 +101,31 @@ dataOver x ndisc s = cond (eqb ndisc 0) (over x s ∷ []) []
 -- ---- REBUILD and REGENERATE
 
 -- the drive that a source names, where its blocks start, and so many of them
-abbrev pub homeOf : List ℕ → Geometry → Source → ℕ
-homeOf m g x = index (driveOf m g (x .address .0))
+abbrev pub homeOf : List ℕ → Geometry → Came → Source → ℕ
+homeOf m g a x = index (sourceDrive m g a (x .address .0))
 
-abbrev pub startOf : List ℕ → Geometry → Source → ℕ
-startOf m g x = place g (homeOf m g x) (x .block .0)
+abbrev pub startOf : List ℕ → Geometry → Came → Source → ℕ
+startOf m g a x = place g (homeOf m g a x) (x .block .0)
 
-abbrev pub namedBlocks : List ℕ → Geometry → ℕ → Source → List ℕ
-namedBlocks m g count x = blocksAt m g (homeOf m g x) (x .block .0) count
+abbrev pub namedBlocks : List ℕ → Geometry → Came → ℕ → Source → List ℕ
+namedBlocks m g a count x = blocksAt m g (homeOf m g a x) (x .block .0) count
 
 -- the blocks that source entry i names
-abbrev pub sourceBlocks : List ℕ → Geometry → List ℕ → ℕ → ℕ → List ℕ
-sourceBlocks m g s count i = namedBlocks m g count (sourceOf s i)
+abbrev pub sourceBlocks : List ℕ → Geometry → Came → List ℕ → ℕ → ℕ → List ℕ
+sourceBlocks m g a s count i = namedBlocks m g a count (sourceOf s i)
 
 -- "The list is read from its first entry on": the entries left, from entry i on
-unfoldable pub sourcesFrom : List ℕ → Geometry → List ℕ → ℕ → ℕ → ℕ → List (List ℕ)
-sourcesFrom m g s count i zero = []
-sourcesFrom m g s count i (suc left) = sourceBlocks m g s count i ∷ sourcesFrom m g s count (i + 1) left
+unfoldable pub sourcesFrom : List ℕ → Geometry → Came → List ℕ → ℕ → ℕ → ℕ → List (List ℕ)
+sourcesFrom m g a s count i zero = []
+sourcesFrom m g a s count i (suc left) = sourceBlocks m g a s count i ∷ sourcesFrom m g a s count (i + 1) left
 
 -- "the intermediate data is the part of the data-out bytes that starts right after the list; it is one more operand"
 abbrev pub intData : Geometry → List ℕ → ℕ → ℕ → ℕ → List (List ℕ)
 intData g s count n int = cond (eqb int 0) [] (part s (8 + 8 * n) (count * g .l) ∷ [])
 
--- the XOR of the n sources and the intermediate data
-unfoldable pub gathered : List ℕ → Geometry → List ℕ → ℕ → ℕ → ℕ → List ℕ
-gathered m g s count n int = xorAll (sourcesFrom m g s count 0 n ++ intData g s count n int)
+-- "List: byte 0 number of sources": the XOR of the sources and the intermediate data
+unfoldable pub gathered : List ℕ → Geometry → List ℕ → ℕ → Sum → List ℕ
+gathered m g s count j = xorAll (sourcesFrom m g (j .came) s count 0 (getD s 0 0) ++ intData g s count (getD s 0 0) (j .int))
 
 -- ---- every command
 
@@ -138,9 +141,9 @@ effectOf m g s (Couple x y mirror) = effect [] (over y (passedOn m g x y mirror 
 -- "Sec Ctl 11: the result is retained", as kind 1
 effectOf m g s (Retain x i mirror ndisc) = effect [] (dataOver x ndisc s) (Comes i 1 x (resultOf m g x mirror s))
 -- "REBUILD writes the XOR to the target"
-effectOf m g s (Rebuild x n int) = effect [] (over x (gathered m g s (x .count) n int) ∷ []) Stays
+effectOf m g s (Rebuild x j) = effect [] (over x (gathered m g s (x .count) j) ∷ []) Stays
 -- "REGENERATE adds the target's own blocks and retains the XOR."
-effectOf m g s (Regenerate x n int i) = effect [] [] (Comes i 2 x (blocksOf m g x ⊻ gathered m g s (x .count) n int))
+effectOf m g s (Regenerate x j i) = effect [] [] (Comes i 2 x (blocksOf m g x ⊻ gathered m g s (x .count) j))
 -- A1: 53h "puts the XOR in the receive room", of the data and the old blocks, and "takes no slot"
 effectOf m g s (XdWriteRead x disable) = effect (s ⊻ blocksOf m g x) (dataOver x disable s) Stays
 

@@ -4,17 +4,19 @@ use mathlib.Core.Path.{_≡_}
 use mathlib.Core.Bool.{false, cond}
 use mathlib.Core.List.{List}
 use lib.Dec.{eqb}
-use lib.ListN.{length}
+use lib.ListN.{length, getD}
 use Rattle.folds.specs.declared.Found.the-variants.{At}
 use Rattle.geometry.specs.declared.Geometry.{Geometry}
 use Rattle.geometry.specs.Places.{Range}
-use Rattle.drives.specs.Table.{driveOf, failed}
+use Rattle.drives.specs.declared.Came.{Came}
+use Rattle.drives.specs.Table.{sourceDrive, failed}
 use Rattle.slots.specs.Record.{slotOf, isUsed}
 use Rattle.slots.specs.Find.{emptySlot, newestOf}
 use Rattle.slots.specs.Facts.{empty-inside}
 use Rattle.command.specs.declared.Source.{Source}
 use Rattle.command.specs.Command.{sourceOf}
 use Rattle.meaning.specs.declared.Span.{Span}
+use Rattle.meaning.specs.declared.Sum.{Sum}
 use Rattle.meaning.specs.declared.Act.{Act}
 use Rattle.meaning.specs.declared.Act.the-variants.{Read, Write, XpWrite, XdRead, Couple, Retain, Rebuild, Regenerate, XdWriteRead}
 
@@ -52,17 +54,17 @@ pub empty-free : (m : List ℕ) (g : Geometry) (i : ℕ) → emptySlot m g ≡ A
 empty-free m g i e = let w = empty-inside m g i e in record { takes = e; slot-in = w .0; unused = w .1 }
 
 -- the source e names blocks of another drive, which is present
-pub record NamesOther (m : List ℕ) (g : Geometry) (x : Span) (e : Source) : Type 0 where
+pub record NamesOther (m : List ℕ) (g : Geometry) (a : Came) (x : Span) (e : Source) : Type 0 where
   pub drive : ℕ
-  pub found : driveOf m g (e .address .0) ≡ At drive
+  pub found : sourceDrive m g a (e .address .0) ≡ At drive
   pub range : Range g drive (e .block .0) (x .count)
   pub present : failed m g drive ≡ false
   pub other : drive ≡ x .drive → ⊥
 
-pub record Sourced (m : List ℕ) (g : Geometry) (x : Span) (n int : ℕ) (s : List ℕ) : Type 0 where
-  pub some-source : 1 ≤ n
-  pub exact : length s ≡ 8 + 8 * n + cond (eqb int 0) 0 (x .count * g .l)
-  pub each : (i : ℕ) → i < n → NamesOther m g x (sourceOf s i)
+pub record Sourced (m : List ℕ) (g : Geometry) (x : Span) (j : Sum) (s : List ℕ) : Type 0 where
+  pub some-source : 1 ≤ getD s 0 0
+  pub exact : length s ≡ 8 + 8 * getD s 0 0 + cond (eqb (j .int) 0) 0 (x .count * g .l)
+  pub each : (i : ℕ) → i < getD s 0 0 → NamesOther m g (j .came) x (sourceOf s i)
 
 abbrev pub Allowed : List ℕ → Geometry → List ℕ → ℕ → Act → Type 0
 Allowed m g s room (Read x) = Blocks m g x × Roomy g x room
@@ -71,18 +73,6 @@ Allowed m g s room (XpWrite x) = Blocks m g x × Filled g x s
 Allowed m g s room (XdRead x i) = Held m g x i × Roomy g x room
 Allowed m g s room (Couple x y mirror) = Blocks m g x × Blocks m g y × (x .count ≡ y .count) × (x .drive ≡ y .drive → ⊥) × Filled g x s
 Allowed m g s room (Retain x i mirror ndisc) = Blocks m g x × Filled g x s × Limited g x × Free m g i
-Allowed m g s room (Rebuild x n int) = Blocks m g x × Sourced m g x n int s
-Allowed m g s room (Regenerate x n int i) = Blocks m g x × Sourced m g x n int s × Limited g x × Free m g i
+Allowed m g s room (Rebuild x j) = Blocks m g x × Sourced m g x j s
+Allowed m g s room (Regenerate x j i) = Blocks m g x × Sourced m g x j s × Limited g x × Free m g i
 Allowed m g s room (XdWriteRead x disable) = Blocks m g x × Filled g x s × Roomy g x room
-
--- where an act has sources, a byte counts them
-abbrev pub Few : Act → Type 0
-Few (Read x) = Unit {0}
-Few (Write x) = Unit {0}
-Few (XpWrite x) = Unit {0}
-Few (XdRead x i) = Unit {0}
-Few (Couple x y mirror) = Unit {0}
-Few (Retain x i mirror ndisc) = Unit {0}
-Few (Rebuild x n int) = n < 256
-Few (Regenerate x n int i) = n < 256
-Few (XdWriteRead x disable) = Unit {0}

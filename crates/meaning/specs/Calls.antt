@@ -1,13 +1,14 @@
 -- The calls of a driver, one after the other.
 use Prim.Native.Nat.{ℕ}
 use mathlib.Core.List.{List, [], _∷_}
+use Rattle.drives.specs.declared.Came.{Came}
 use Rattle.meaning.specs.Step.{stepImage, resetImage, markImage}
 
--- a command: target, CDB, data-out bytes, receive room; a hard reset: target; a marking: target, state
+-- a command: how it came, CDB, data-out bytes, receive room; a hard reset: how it came; a marking: how it came, state
 pub data Call : Type 0 where
-  command : ℕ → List ℕ → List ℕ → List ℕ → Call
-  reset : ℕ → Call
-  marking : ℕ → ℕ → Call
+  command : Came → List ℕ → List ℕ → List ℕ → Call
+  reset : Came → Call
+  marking : Came → ℕ → Call
 
 -- what a call leaves of an image
 abbrev pub afterCall : Call → List ℕ → List ℕ

@@ -14,7 +14,8 @@ use Rattle.rules.specs.Rule.{Rule, rule, first}
 use Rattle.folds.specs.Least.{index}
 use Rattle.geometry.specs.declared.Geometry.{Geometry}
 use Rattle.geometry.specs.Header.{geometryOf}
-use Rattle.drives.specs.Table.{driveOf, failed}
+use Rattle.drives.specs.declared.Came.{Came}
+use Rattle.drives.specs.Table.{targetOf, secondaryOf, failed}
 use Rattle.slots.specs.Record.{slotOf}
 use Rattle.slots.specs.Find.{emptySlot, newestOf}
 use Rattle.image.specs.Valid.{validImage}
@@ -25,6 +26,7 @@ use Rattle.command.specs.declared.Op.the-variants.{XdWrite, XpWrite, XdRead, Re
 use Rattle.command.specs.declared.Command.{Command}
 use Rattle.command.specs.Command.{opOf, sizeOf, zeroBits, commandOf, mirrorOf, ndiscOf, secOf, intOf, listSecOf, disableOf, ownOf, resolvedOf, listBytes}
 use Rattle.meaning.specs.declared.Span.{Span}
+use Rattle.meaning.specs.declared.Sum.{Sum}
 use Rattle.meaning.specs.declared.Act.the-variants.{Read as ToRead, Write as ToWrite, XpWrite as ToXpWrite, XdRead as ToXdRead, Couple, Retain, Rebuild as ToRebuild, Regenerate as ToRegenerate, XdWriteRead as ToXdWriteRead}
 use Rattle.meaning.specs.declared.Seen.{Seen}
 use Rattle.meaning.specs.declared.Seen.the-variants.{Dash, Cdb, List as InList, Drive, Entry, EntryDrive}
@@ -45,10 +47,10 @@ abbrev pub isUnknown : Op → Bool
 isUnknown o = eqb (sizeOf o) 0
 
 -- 1. "Calls 1, 2, 3 in that order.": "1 image not valid; 2 no such target"
-abbrev pub calls : List ℕ → ℕ → List Check
+abbrev pub calls : List ℕ → Came → List Check
 calls m a =
     rule 1 Dash (not (validImage m)) BadImage
-    ∷ rule 1 Dash (isNothing (driveOf m (geometryOf m) a)) NoTarget
+    ∷ rule 1 Dash (isNothing (targetOf m (geometryOf m) a)) NoTarget
     ∷ []
 
 -- "3 CDB empty, or a known code with another length"
@@ -94,7 +96,7 @@ fields XdWrite m g t k =
     ++ rule 4 (Cdb 1) (eqb (secOf k) 1) BadField
     ∷ rule 4 (Cdb 1) (not (eqb (secOf k) 3) && eqb (ndiscOf k) 1) BadField
     ∷ aboveM 6 g k
-    ++ rule 4 (Cdb 8) (not (eqb (secOf k) 3) && isAt t (driveOf m g (k .second .0))) BadField
+    ++ rule 4 (Cdb 8) (not (eqb (secOf k) 3) && isAt t (secondaryOf m g (k .came) (k .second .0))) BadField
     ∷ zeroControl 15 k
 fields XpWrite m g t k = zeroFlags XpWrite k ++ zeroSix k ++ aboveM 7 g k ++ zeroControl 9 k
 fields XdRead m g t k = zeroFlags XdRead k ++ zeroSix k ++ zeroControl 9 k
@@ -142,17 +144,17 @@ listLength k s =
     ∷ []
 
 -- "Then no sources, type not 01, bytes 2-3 not zero, or a source that is the target: 05h/26h/00h."
-abbrev pub listHead : List ℕ → Geometry → ℕ → List ℕ → List Check
-listHead m g t s =
+abbrev pub listHead : List ℕ → Geometry → Came → ℕ → List ℕ → List Check
+listHead m g a t s =
     rule 7 (InList 0) (eqb (getD s 0 0) 0) BadList
     ∷ rule 7 (InList 1) (not (eqb (getD s 1 0) 1)) BadList
     ∷ rule 7 (InList 2) (not (eqb (be 2 s 2) 0)) BadList
-    ∷ rule 7 (Entry (index (ownEntry m g s (getD s 0 0) t)) 0) (not (isNothing (ownEntry m g s (getD s 0 0) t))) BadList
+    ∷ rule 7 (Entry (index (ownEntry m g a s (getD s 0 0) t)) 0) (not (isNothing (ownEntry m g a s (getD s 0 0) t))) BadList
     ∷ []
 
 -- "Then GOOD for length 0."
 abbrev pub listRules : List ℕ → Geometry → ℕ → Command → List ℕ → List Check
-listRules m g t k s = listLength k s ++ listHead m g t s ++ rule 7 (Cdb 2) (eqb (k .count) 0) Good ∷ []
+listRules m g t k s = listLength k s ++ listHead m g (k .came) t s ++ rule 7 (Cdb 2) (eqb (k .count) 0) Good ∷ []
 
 abbrev pub lists : Op → List ℕ → Geometry → ℕ → Command → List ℕ → List Check
 lists XdWrite m g t k s = []
@@ -234,11 +236,11 @@ secondRules m g k f =
     ∷ []
 
 abbrev pub nested : Op → List ℕ → Geometry → Command → List ℕ → List Check
-nested XdWrite m g k s = secondRules m g k (driveOf m g (k .second .0))
+nested XdWrite m g k s = secondRules m g k (secondaryOf m g (k .came) (k .second .0))
 nested XpWrite m g k s = []
 nested XdRead m g k s = []
-nested Rebuild m g k s = sourceRules (firstBad m g s (resolved g k s .count) 0 (getD s 0 0))
-nested Regenerate m g k s = sourceRules (firstBad m g s (resolved g k s .count) 0 (getD s 0 0))
+nested Rebuild m g k s = sourceRules (firstBad m g (k .came) s (resolved g k s .count) 0 (getD s 0 0))
+nested Regenerate m g k s = sourceRules (firstBad m g (k .came) s (resolved g k s .count) 0 (getD s 0 0))
 nested Read m g k s = []
 nested Write m g k s = []
 nested XdWriteTen m g k s = []
@@ -268,15 +270,18 @@ spanOf t k = record { drive = t; block = k .block; count = k .count }
 abbrev pub secondOf : Found → Command → Span
 secondOf f k = record { drive = index f; block = k .spot; count = k .count }
 
+abbrev pub sumOf : Command → Sum
+sumOf k = record { int = intOf k; came = k .came }
+
 abbrev pub acts : Op → List ℕ → Geometry → ℕ → Command → List ℕ → Decision
 acts XdWrite m g t k s =
     cond (eqb (secOf k) 3)
     (Go (Retain (spanOf t k) (index (emptySlot m g)) (mirrorOf k) (ndiscOf k)) Good)
-    (Go (Couple (spanOf t k) (secondOf (driveOf m g (k .second .0)) k) (mirrorOf k)) Good)
+    (Go (Couple (spanOf t k) (secondOf (secondaryOf m g (k .came) (k .second .0)) k) (mirrorOf k)) Good)
 acts XpWrite m g t k s = Go (ToXpWrite (spanOf t k)) Good
 acts XdRead m g t k s = Go (ToXdRead (spanOf t k) (index (newestOf m g t (k .block .0)))) Good
-acts Rebuild m g t k s = Go (ToRebuild (spanOf t (resolved g k s)) (getD s 0 0) (intOf k)) Good
-acts Regenerate m g t k s = Go (ToRegenerate (spanOf t (resolved g k s)) (getD s 0 0) (intOf k) (index (emptySlot m g))) Good
+acts Rebuild m g t k s = Go (ToRebuild (spanOf t (resolved g k s)) (sumOf k)) Good
+acts Regenerate m g t k s = Go (ToRegenerate (spanOf t (resolved g k s)) (sumOf k) (index (emptySlot m g))) Good
 acts Read m g t k s = Go (ToRead (spanOf t k)) Good
 acts Write m g t k s = Go (ToWrite (spanOf t k)) Good
 -- A1: "50h always retains", as XDWRITE with Sec Ctl 11 does, DISABLE WRITE for NDisc
@@ -297,20 +302,20 @@ commandChecks o m g t k s room =
     ++ rooms o g k room
 
 -- all checks, in 01's order
-abbrev pub checksFor : Op → List ℕ → Geometry → ℕ → ℕ → List ℕ → List ℕ → ℕ → List Check
-checksFor o m g a t c s room = calls m a ++ cdbCalls o c ++ known m g t o ++ commandChecks o m g t (commandOf o c) s room
+abbrev pub checksFor : Op → List ℕ → Geometry → Came → ℕ → List ℕ → List ℕ → ℕ → List Check
+checksFor o m g a t c s room = calls m a ++ cdbCalls o c ++ known m g t o ++ commandChecks o m g t (commandOf o a c) s room
 
 -- of image m itself, and what is done where none applies
-abbrev pub checks : Op → List ℕ → ℕ → List ℕ → List ℕ → ℕ → List Check
-checks o m a c s room = checksFor o m (geometryOf m) a (index (driveOf m (geometryOf m) a)) c s room
+abbrev pub checks : Op → List ℕ → Came → List ℕ → List ℕ → ℕ → List Check
+checks o m a c s room = checksFor o m (geometryOf m) a (index (targetOf m (geometryOf m) a)) c s room
 
-abbrev pub carriedOut : Op → List ℕ → ℕ → List ℕ → List ℕ → Decision
-carriedOut o m a c s = acts o m (geometryOf m) (index (driveOf m (geometryOf m) a)) (commandOf o c) s
+abbrev pub carriedOut : Op → List ℕ → Came → List ℕ → List ℕ → Decision
+carriedOut o m a c s = acts o m (geometryOf m) (index (targetOf m (geometryOf m) a)) (commandOf o a c) s
 
 -- "The first that applies decides"
-abbrev pub decideFor : Op → List ℕ → ℕ → List ℕ → List ℕ → ℕ → Decision
+abbrev pub decideFor : Op → List ℕ → Came → List ℕ → List ℕ → ℕ → Decision
 decideFor o m a c s room = first Stop (checks o m a c s room) (carriedOut o m a c s)
 
 -- for the operation that the CDB's first byte says
-unfoldable pub decideOf : List ℕ → ℕ → List ℕ → List ℕ → ℕ → Decision
+unfoldable pub decideOf : List ℕ → Came → List ℕ → List ℕ → ℕ → Decision
 decideOf m a c s room = decideFor (opOf (getD c 0 0)) m a c s room

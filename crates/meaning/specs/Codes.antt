@@ -6,6 +6,7 @@ use mathlib.Core.List.{List, _∷_}
 use lib.Dec.{leb, eqb}
 use borrow.Author.Tests.{ne-eqb}
 use Rattle.octets.specs.Part.{part}
+use Rattle.drives.specs.declared.Came.{Came}
 use Rattle.command.specs.declared.Op.{Op}
 use Rattle.command.specs.declared.Op.the-variants.{XdWrite, XpWrite, XdRead, Rebuild, Regenerate, Read, Write, XdWriteTen, XdWriteRead, Unknown}
 use Rattle.command.specs.Command.{opOf1994, opOf, tenOf}
@@ -61,10 +62,10 @@ none-new code =
 
 -- ---- "both sets share slots and the newest-first rule": 51h and 52h are C1h and C2h, whatever the other bytes say
 
-pub xpwrite-twins : (m : List ℕ) (a : ℕ) (c s : List ℕ) (r : ℕ) → decideOf m a (0x51 ∷ c) s r ≡ decideOf m a (0xC1 ∷ c) s r
+pub xpwrite-twins : (m : List ℕ) (a : Came) (c s : List ℕ) (r : ℕ) → decideOf m a (0x51 ∷ c) s r ≡ decideOf m a (0xC1 ∷ c) s r
 unfolding decideOf opOf tenOf part
 xpwrite-twins m a c s r = refl
 
-pub xdread-twins : (m : List ℕ) (a : ℕ) (c s : List ℕ) (r : ℕ) → decideOf m a (0x52 ∷ c) s r ≡ decideOf m a (0xC2 ∷ c) s r
+pub xdread-twins : (m : List ℕ) (a : Came) (c s : List ℕ) (r : ℕ) → decideOf m a (0x52 ∷ c) s r ≡ decideOf m a (0xC2 ∷ c) s r
 unfolding decideOf opOf tenOf part
 xdread-twins m a c s r = refl

@@ -6,6 +6,7 @@ use lib.ListN.{length}
 use Rattle.octets.specs.Put.{put}
 use Rattle.geometry.specs.declared.Geometry.{Geometry}
 use Rattle.geometry.specs.Header.{geometryOf}
+use Rattle.drives.specs.declared.Came.{Came}
 use Rattle.sense.specs.declared.Answer.{Answer}
 use Rattle.sense.specs.declared.Outcome.{Outcome}
 use Rattle.sense.specs.Sense.{outcomeOf}
@@ -16,23 +17,23 @@ use Rattle.meaning.specs.declared.Decision.the-variants.{Stop, Go}
 use Rattle.meaning.specs.Acts.{leaves, hands}
 use Rattle.meaning.specs.Step.{decided, imageAfter, roomAfter, outcomeAfter, stepImage, stepRoom, stepOutcome, resetAnswer, resetImage, markAnswer, markImage}
 
--- image m, target a, CDB c, data-out bytes s and receive room r become outcome o, image m′ and room r′
-pub record Stepped (m : List ℕ) (a : ℕ) (c s r : List ℕ) (o : Outcome) (m′ r′ : List ℕ) : Type 0 where
+-- image m, a command that came as a, its CDB c, data-out bytes s and receive room r become outcome o, image m′ and room r′
+pub record Stepped (m : List ℕ) (a : Came) (c s r : List ℕ) (o : Outcome) (m′ r′ : List ℕ) : Type 0 where
   pub outcome : o ≡ stepOutcome m a c s r
   pub image : m′ ≡ stepImage m a c s r
   pub room : r′ ≡ stepRoom m a c s r
 
-pub record Reset (m : List ℕ) (a : ℕ) (z : Answer) (m′ : List ℕ) : Type 0 where
+pub record Reset (m : List ℕ) (a : Came) (z : Answer) (m′ : List ℕ) : Type 0 where
   pub answer : z ≡ resetAnswer m a
   pub image : m′ ≡ resetImage m a
 
-pub record Marked (m : List ℕ) (a state : ℕ) (z : Answer) (m′ : List ℕ) : Type 0 where
+pub record Marked (m : List ℕ) (a : Came) (state : ℕ) (z : Answer) (m′ : List ℕ) : Type 0 where
   pub answer : z ≡ markAnswer m a state
   pub image : m′ ≡ markImage m a state
 
 -- ---- as the code goes
 
-module _ (m : List ℕ) (a : ℕ) (c s r : List ℕ) where
+module _ (m : List ℕ) (a : Came) (c s r : List ℕ) where
   -- a check decided
   pub stopped : (n : ℕ) (w : Seen) (z : Answer) (o : Outcome) → decided m a c s r ≡ Stop n w z → o ≡ outcomeOf z 0 → Stepped m a c s r o m r
   unfolding stepOutcome stepImage stepRoom

@@ -4,11 +4,13 @@
 // The letters of the definitions, here and in the crates below, have one meaning each:
 //
 //     m  the image               g  its geometry, whose fields have 01's letters
-//     a  an address              t  the target's index in the table    d  another drive's
+//     a  how a command came      t  the target's index in the table    d  another drive's
 //     c  the CDB                 o  its operation                      k  the command
 //     s  the data-out bytes      r  the receive room                   i  a slot's or a source entry's number
 //     b  a block number          n  how many                           x, y  blocks of a drive
 //     z  an answer               w  where a check saw it               e  a slot's record, or a source
+//     j  what is summed
+use drives::Came;
 use geometry::Block;
 use sense::Answer;
 
@@ -17,6 +19,12 @@ pub struct Span {
     pub drive: usize,
     pub block: Block,
     pub count: usize,
+}
+
+// What is summed besides the list: Int Data, and how the command came, by which sources are looked up.
+pub struct Sum {
+    pub int: usize,
+    pub came: Came,
 }
 
 // What a command that passed every check does. Flags are 0 or 1.
@@ -30,10 +38,10 @@ pub enum Act {
     Couple(Span, Span, usize),
     // the data's blocks, the slot that takes the result, Mirror, NDisc or DISABLE WRITE
     Retain(Span, usize, usize, usize),
-    // the target's blocks, how many sources, Int Data
-    Rebuild(Span, usize, usize),
+    // the target's blocks, what is summed
+    Rebuild(Span, Sum),
     // the same, and the slot that takes the result
-    Regenerate(Span, usize, usize, usize),
+    Regenerate(Span, Sum, usize),
     // the data's blocks, DISABLE WRITE
     XdWriteRead(Span, usize),
 }

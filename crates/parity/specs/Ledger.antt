@@ -96,8 +96,8 @@ noted m g s (XpWrite x) es = onFirst (carriable x s) (become Carried) es
 noted m g s (XdRead x i) es = onFirst (waits (x .drive) (x .block .0)) (become Read) es
 noted m g s (Couple x y mirror) es = es
 noted m g s (Retain x i mirror ndisc) es = line (resultIn 1 x (resultOf m g x mirror s)) (eqb ndisc 0) Unread ∷ es
-noted m g s (Rebuild x n int) es = es
-noted m g s (Regenerate x n int i) es = line (resultIn 2 x (blocksOf m g x ⊻ gathered m g s (x .count) n int)) false Unread ∷ es
+noted m g s (Rebuild x j) es = es
+noted m g s (Regenerate x j i) es = line (resultIn 2 x (blocksOf m g x ⊻ gathered m g s (x .count) j)) false Unread ∷ es
 -- the bytes that it hands to the room
 noted m g s (XdWriteRead x disable) es = line (resultIn 1 x (s ⊻ blocksOf m g x)) (eqb disable 0) Read ∷ es
 
@@ -133,8 +133,8 @@ FairAct es s (XpWrite x) = Carries es x s
 FairAct es s (XdRead x i) = Unit {0}
 FairAct es s (Couple x y mirror) = (mirror ≡ 0) × (x .block .0 ≡ y .block .0)
 FairAct es s (Retain x i mirror ndisc) = ndisc ≡ 0 → mirror ≡ 0
-FairAct es s (Rebuild x n int) = ⊥
-FairAct es s (Regenerate x n int i) = Unit {0}
+FairAct es s (Rebuild x j) = ⊥
+FairAct es s (Regenerate x j i) = Unit {0}
 FairAct es s (XdWriteRead x disable) = Unit {0}
 
 -- asked only of a command that is carried out

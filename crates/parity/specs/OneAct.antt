@@ -153,8 +153,8 @@ module _ (m : List ℕ) (g : Geometry) (h : Shelf m g) (s : List ℕ) (es : List
     λ fair r l. data-sum m g h s es r l x (eqb ndisc 0) _ (al .0) (al .1) (and-true (eqb ndisc 0))
         (λ t. turned x _ (ap (λ (c : Bool). cond c (s ⊻ blocksOf m g x) s) (eq-eqb mirror 0 (fair (eqb-true ndisc 0 t)))) r),
   )
-  act-noted room (Rebuild x n int) al = (λ e. e, λ fair. absurd fair)
-  act-noted room (Regenerate x n int i) al = (more _ _, λ fair r l. ap (_⊻_ (rowSum m g r)) (owed-miss g r _ es refl))
+  act-noted room (Rebuild x j) al = (λ e. e, λ fair. absurd fair)
+  act-noted room (Regenerate x j i) al = (more _ _, λ fair r l. ap (_⊻_ (rowSum m g r)) (owed-miss g r _ es refl))
   act-noted room (XdWriteRead x disable) al = (
     λ e. waiting-miss _ es refl ∙ e,
     λ fair r l. data-sum m g h s es r l x (eqb disable 0) _ (al .0) (al .1) (and-true (eqb disable 0)) (λ t. turned x _ refl r),

@@ -133,8 +133,8 @@ instead rebuild couple xpwrite xdwriteread y (XpWrite x) = xpwrite x
 instead rebuild couple xpwrite xdwriteread y (XdRead x i) = y
 instead rebuild couple xpwrite xdwriteread y (Couple x z mirror) = couple x z mirror
 instead rebuild couple xpwrite xdwriteread y (Retain x i mirror ndisc) = y
-instead rebuild couple xpwrite xdwriteread y (Rebuild x n int) = rebuild x n int
-instead rebuild couple xpwrite xdwriteread y (Regenerate x n int i) = y
+instead rebuild couple xpwrite xdwriteread y (Rebuild x j) = rebuild x n int
+instead rebuild couple xpwrite xdwriteread y (Regenerate x j i) = y
 instead rebuild couple xpwrite xdwriteread y (XdWriteRead x disable) = xdwriteread x disable
 
 -- one of these alone
@@ -176,7 +176,7 @@ missing-not (suc (suc i)) l h = absurd (omega arith)
 -- "Counting the target among REBUILD's operands."
 abbrev pub counting : Acting
 counting s g sent act =
-    onRebuild (λ x n int. put s (spanAt g x) (blocksOf s g x ⊻ gathered s g sent (x .count) n int)) (leaves s g sent act) act
+    onRebuild (λ x n int. put s (spanAt g x) (blocksOf s g x ⊻ gathered s g sent (x .count) j)) (leaves s g sent act) act
 
 pub counting-not : Restores (callBy (actingBy counting)) (actingBy counting) → ⊥
 unfolding cdbOf decideOf stepOutcome validImage framedOk rangesOk offsetsOk tableOk statesOk newAddress addressesOk slotsOk eachOk ranksOk slotOk slotOf slotAt place every allBelow countBelow leastBelow driveOf part put num toBe _⊻_ xorAll sourcesFrom gathered opOf listedOf ownOf resolvedOf listBytes sourceOf ownEntry driveBad entryBad firstBad

@@ -1,7 +1,7 @@
 -- `act::carry_out` meets its contract.
 use mathlib.Core.Path.{refl}
 use borrow.Author.Needs.{needs}
-use Rattle.act.specs.Carry.{allowed-as, few-as, done-as, done-quietly}
+use Rattle.act.specs.Carry.{allowed-as, done-as, done-quietly}
 use Rattle.act.proofs.carry_out.Statement.{statement}
 use Rattle.act.proofs.carry_out.Tie as tie
 
@@ -52,14 +52,14 @@ rebuild-requires c κs =
     let pre = c .before .before .before .before .before .before .before .pre in
     let args = c .before .before .before .before .before .before .before .args in
     let act7 = c .before .before .act7 in
-    (pre .0, allowed-as (args .image .now) (args .g) (args .sent .now) (args .act) _ (act7 .given .1) _ (pre .1), few-as (args .image .now) (args .g) (args .sent .now) (args .act) _ (act7 .given .1) (pre .2))
+    (pre .0, allowed-as (args .image .now) (args .g) (args .sent .now) (args .act) _ (act7 .given .1) _ (pre .1))
 
 regenerate-requires : tie.Need-regenerate-requires
 regenerate-requires c κs =
     let pre = c .before .before .before .before .before .before .before .pre in
     let args = c .before .before .before .before .before .before .before .args in
     let act8 = c .before .before .act8 in
-    (pre .0, allowed-as (args .image .now) (args .g) (args .sent .now) (args .act) _ (act8 .given .1) _ (pre .1), few-as (args .image .now) (args .g) (args .sent .now) (args .act) _ (act8 .given .1) (pre .2))
+    (pre .0, allowed-as (args .image .now) (args .g) (args .sent .now) (args .act) _ (act8 .given .1) _ (pre .1))
 
 xdwriteread-requires : tie.Need-xdwriteread-requires
 xdwriteread-requires c κs =

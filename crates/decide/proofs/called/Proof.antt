@@ -13,8 +13,8 @@ returns c = called-bad _ _ (sym (c .before .valid .ensures) ∙ not-true _ (c .i
 read-requires : tie.Need-read-requires
 read-requires c κs = valid-long _ (sym (c .before .valid .ensures) ∙ not-false _ (c .if1 .left))
 
-find-drive-requires : tie.Need-find-drive-requires
-find-drive-requires c κs =
+find-target-requires : tie.Need-find-target-requires
+find-target-requires c κs =
     let valid = c .before .before .valid in
     let if1 = c .before .if1 in
     let read = c .read in
@@ -25,18 +25,18 @@ returns-2 c =
     let valid = c .before .before .before .before .before .before .valid in
     let if1 = c .before .before .before .before .before .if1 in
     let read = c .before .before .before .before .read in
-    let find-drive = c .before .before .before .find-drive in
+    let find-target = c .before .before .before .find-target in
     let t = c .before .t in
-    called-at _ _ (sym (valid .ensures) ∙ not-false _ (if1 .left)) _ (read .ensures) _ (sym (find-drive .ensures) ∙ t .given .1)
+    called-at _ _ (sym (valid .ensures) ∙ not-false _ (if1 .left)) _ (read .ensures) _ (sym (find-target .ensures) ∙ t .given .1)
 
 returns-3 : tie.Need-returns-3
 returns-3 c =
     let valid = c .before .before .before .before .before .valid in
     let if1 = c .before .before .before .before .if1 in
     let read = c .before .before .before .read in
-    let find-drive = c .before .before .find-drive in
+    let find-target = c .before .before .find-target in
     let enum-told = c .enum-told in
-    called-none _ _ (sym (valid .ensures) ∙ not-false _ (if1 .left)) _ (read .ensures) (sym (find-drive .ensures) ∙ enum-told .given .1)
+    called-none _ _ (sym (valid .ensures) ∙ not-false _ (if1 .left)) _ (read .ensures) (sym (find-target .ensures) ∙ enum-told .given .1)
 
 pub called-spec : {M : Type 1} → statement M
 called-spec =
@@ -45,7 +45,7 @@ called-spec =
     (λ c κs. search needs)
     returns
     read-requires
-    find-drive-requires
+    find-target-requires
     (λ c. search needs)
     (λ c. search needs)
     returns-2

@@ -17,7 +17,7 @@ returns-2 c =
     let byte = c .before .before .byte in
     let op-of = c .before .op-of in
     let if1 = c .before .before .before .if1 in
-    from-check-2 .ensures ∙ call-3-on _ _ _ _ _ _ _ _ (byte .ensures .0) (op-of .ensures) (if1 .left)
+    from-check-2 .ensures ∙ call-3-on _ _ _ _ _ _ _ _ _ (byte .ensures .0) (op-of .ensures) (if1 .left)
 
 pub from-call-3-spec : {M : Type 1} → statement M
 from-call-3-spec = tie.close (tie.spec returns (λ c κs. search needs) (λ c κs. search needs) (λ c κs. search needs) returns-2)

@@ -32,7 +32,7 @@ returns-3 c =
     let if2 = c .before .before .if2 in
     let is-failed = c .before .is-failed in
     let if3 = c .if3 in
-    check-2-failed _ _ _ _ _ _ _ (λ e. if1 .left (size-of .ensures ∙ e)) (if2 .left ∙ size-of .ensures) (sym (is-failed .ensures) ∙ if3 .taken)
+    check-2-failed _ _ _ _ _ _ _ _ (λ e. if1 .left (size-of .ensures ∙ e)) (if2 .left ∙ size-of .ensures) (sym (is-failed .ensures) ∙ if3 .taken)
 
 returns-4 : tie.Need-returns-4
 returns-4 c =
@@ -42,7 +42,7 @@ returns-4 c =
     let size-of = c .before .before .before .before .before .before .size-of in
     let if2 = c .before .before .before .before .if2 in
     c .each .ensures
-    ∙ check-2-on _ _ _ _ _ _ _ _ (decode .ensures .0) (λ e. if1 .left (size-of .ensures ∙ e)) (if2 .left ∙ size-of .ensures) up
+    ∙ check-2-on _ _ _ _ _ _ _ _ _ (decode .ensures .0) (λ e. if1 .left (size-of .ensures ∙ e)) (if2 .left ∙ size-of .ensures) up
 
 pub from-check-2-spec : {M : Type 1} → statement M
 from-check-2-spec =

@@ -41,13 +41,13 @@ returns-3 c =
 limited-requires-2 : tie.Need-limited-requires-2
 limited-requires-2 c κs =
     let pre = c .before .before .before .before .before .before .before .before .before .before .pre in
-    let find-drive = c .before .find-drive in
-    (pre .0, pre .1, λ j e. drive-inside _ _ _ j (sym (find-drive .ensures) ∙ e) .0)
+    let find-secondary = c .before .find-secondary in
+    (pre .0, pre .1, λ j e. drive-inside _ _ _ j (sym (find-secondary .ensures) ∙ e) .0)
 
 returns-4 : tie.Need-returns-4
 unfolding xdwriteOf
 returns-4 c =
-    let find-drive = c .before .before .find-drive in
+    let find-secondary = c .before .before .find-secondary in
     let is-at = c .before .is-at in
     let k = c .before .before .before .before .before .before .before .before .before .before .before .args .k in
     let sec = c .before .before .before .before .before .before .before .before .sec in
@@ -55,7 +55,7 @@ returns-4 c =
     let not-1 = ne-eqb (secOf k) 1 (λ e. c .before .before .before .before .before .if1 .left (sec .ensures .0 ∙ e)) in
     let not-3 = ne-eqb (secOf k) 3 (λ e. c .before .before .before .before .if2 .left (sec .ensures .0 ∙ e)) in
     let not-alone = ne-eqb (ndiscOf k) 1 (λ e. c .before .before .before .if3 .left (ndisc .ensures .0 ∙ e)) in
-    c .limited2 .ensures ∙ search (tests, find-drive .ensures, is-at .ensures, not-1, not-3, not-alone)
+    c .limited2 .ensures ∙ search (tests, find-secondary .ensures, is-at .ensures, not-1, not-3, not-alone)
 
 pub xdwrite-spec : {M : Type 1} → statement M
 xdwrite-spec =

@@ -8,6 +8,7 @@ use borrow.Author.Needs.{needs}
 use borrow.Author.Tests.{eq-eqb, ne-eqb}
 use Rattle.folds.specs.declared.Found.the-variants.{At, Nothing}
 use Rattle.folds.specs.Least.{leastBelow, least-start, least-more, least-stop, least-done}
+use Rattle.drives.specs.declared.Came.{Came}
 use Rattle.drives.specs.Table.{addressOf, driveOf}
 use Rattle.meaning.specs.declared.Fault.{Fault}
 use Rattle.meaning.specs.declared.Fault.the-variants.{Clear, Absent, Failed, Beyond}
@@ -24,13 +25,13 @@ abbrev μ-loop : tie.MeasureT-loop
 μ-loop image g sent n count table blocks i source k₀ k = table - k
 
 abbrev Inv-entries : tie.InvT-entries
-Inv-entries image g sent n count table blocks i₀ i = (i ≤ n) × (firstBad image g sent count 0 n ≡ firstBad image g sent count i (n - i))
+Inv-entries image g sent n count table blocks i₀ i = (i ≤ n) × ((a : Came) → firstBad image g a sent count 0 n ≡ firstBad image g a sent count i (n - i))
 
 abbrev μ-entries : tie.MeasureT-entries
 μ-entries image g sent n count table blocks i₀ i = n - i
 
 entries-holds : tie.Need-entries-holds Inv-loop μ-loop Inv-entries μ-entries
-entries-holds c = (omega arith, ap (firstBad _ _ _ _ 0) (all-left _))
+entries-holds c = (omega arith, λ a. ap (firstBad _ _ a _ _ 0) (all-left _))
 
 loop-again : tie.Need-loop-again Inv-loop μ-loop Inv-entries μ-entries
 loop-again c =
@@ -53,18 +54,18 @@ abbrev start : Hit → tie.Start Inv-loop μ-loop Inv-entries μ-entries
 start c = outer c .before .before .before
 
 -- the fault of entry i, by what drive k says
-hit : (c : Hit) (x : Fault)
+hit : (c : Hit) (x : Fault) (a : Came)
     → driveBad (start c .args .image .now) (start c .args .g) (start c .args .count) (outer c .entries .i)
     (inner c .before .read .result .block .0) (At (inner c .loop .k)) ≡ x
-    → firstBad (start c .args .image .now) (start c .args .g) (start c .args .sent .now) (start c .args .count) 0 (start c .args .n)
-    ≡ orNext x (firstBad (start c .args .image .now) (start c .args .g) (start c .args .sent .now) (start c .args .count)
+    → firstBad (start c .args .image .now) (start c .args .g) a (start c .args .sent .now) (start c .args .count) 0 (start c .args .n)
+    ≡ orNext x (firstBad (start c .args .image .now) (start c .args .g) a (start c .args .sent .now) (start c .args .count)
     (outer c .entries .i + 1) (start c .args .n - (outer c .entries .i + 1)))
 unfolding driveOf
-hit c x q =
+hit c x a q =
     let h = inner c in
     let address = c .before .before .before .address in
-    outer c .entries .inv .1
-    ∙ bad-at _ _ _ _ _ _ _ _ x (search needs) (h .before .read .ensures .0)
+    outer c .entries .inv .1 a
+    ∙ bad-at _ _ a _ _ _ _ _ _ x (search needs) (h .before .read .ensures .0)
     (sym (least-stop _ _ (h .loop .k) (search needs) (h .loop .inv .1) (eq-eqb _ _ (sym (address .ensures .0) ∙ c .if3 .taken))))
     q
 
@@ -73,10 +74,10 @@ entries-again c =
     let is-failed = c .before .before .before .is-failed in
     let if4 = c .before .before .if4 in
     let if5 = c .if5 in
-    let failed = is-failed in (search needs, hit (c .before .before .before .before) Clear (bad-clear _ _ _ _ _ _ (sym (failed .ensures) ∙ if4 .left) (if5 .left)))
+    let failed = is-failed in (search needs, λ a. hit (c .before .before .before .before) Clear a (bad-clear _ _ _ _ _ _ (sym (failed .ensures) ∙ if4 .left) (if5 .left)))
 
 returns : tie.Need-returns Inv-loop μ-loop Inv-entries μ-entries
-returns c = sym (c .before .entries .inv .1 ∙ bad-end _ _ _ _ _ _ (c .if1 .taken))
+returns c = sym (c .before .entries .inv .1 _ ∙ bad-end _ _ _ _ _ _ _ (c .if1 .taken))
 
 returns-2 : tie.Need-returns-2 Inv-loop μ-loop Inv-entries μ-entries
 unfolding driveOf
@@ -85,21 +86,21 @@ returns-2 c =
     let at-entries = h .before .before .before .entries in
     let none = sym (least-done _ _ _ (h .loop .inv .1) (search needs) (c .if2 .taken)) in
     sym
-    (at-entries .inv .1
-    ∙ bad-at _ _ _ _ _ _ _ _ (Absent _) (search needs) (h .before .read .ensures .0) none (bad-absent _ _ _ _ _))
+    (at-entries .inv .1 _
+    ∙ bad-at _ _ _ _ _ _ _ _ _ (Absent _) (search needs) (h .before .read .ensures .0) none (bad-absent _ _ _ _ _))
 
 returns-3 : tie.Need-returns-3 Inv-loop μ-loop Inv-entries μ-entries
 returns-3 c =
     let is-failed = c .before .is-failed in
     let if4 = c .if4 in
-    sym (hit (c .before .before) (Failed _ _) (bad-failed _ _ _ _ _ _ (sym (is-failed .ensures) ∙ if4 .taken)))
+    sym (hit (c .before .before) (Failed _ _) _ (bad-failed _ _ _ _ _ _ (sym (is-failed .ensures) ∙ if4 .taken)))
 
 returns-4 : tie.Need-returns-4 Inv-loop μ-loop Inv-entries μ-entries
 returns-4 c =
     let is-failed = c .before .before .before .is-failed in
     let if4 = c .before .before .if4 in
     let if5 = c .if5 in
-    let failed = is-failed in sym (hit (c .before .before .before .before) (Beyond _) (bad-beyond _ _ _ _ _ _ (sym (failed .ensures) ∙ if4 .left) (if5 .taken)))
+    let failed = is-failed in sym (hit (c .before .before .before .before) (Beyond _) _ (bad-beyond _ _ _ _ _ _ (sym (failed .ensures) ∙ if4 .left) (if5 .taken)))
 
 pub first-bad-spec : {M : Type 1} → statement M
 first-bad-spec =

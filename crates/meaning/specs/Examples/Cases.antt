@@ -3,6 +3,7 @@ use Prim.Native.Nat.{ℕ}
 use mathlib.Core.List.{List, [], _∷_, _++_}
 use lib.ListN.{replicate}
 use Rattle.image.specs.Bench.{four, zeros, shelfOf, vacant, holding, one, two, three, bench, fresh, result, afterC2}
+use Rattle.drives.specs.Table.{to}
 use Rattle.meaning.specs.Calls.{Call, command}
 use Rattle.meaning.specs.Examples.Row.{Showed, Row, quiet, refused, nested}
 
@@ -52,7 +53,7 @@ row start before target cdb sent want = record { start = start; before = before;
 
 -- "C2 Same, byte 1 06h"
 abbrev pub c2 : Call
-c2 = command 1 (xdwrite 0x06) fresh room
+c2 = command (to 1) (xdwrite 0x06) fresh room
 
 abbrev pub table : List Row
 table =
@@ -62,7 +63,7 @@ table =
     ∷ row bench [] 1 (xdwrite 0x06) fresh (quiet 0 0 afterC2 room)
     -- C3: "C2, then XDREAD block 0 length 1: F50BF30D; XPWRITE of it to 3 gives FE02FC04."
     ∷ row bench (c2 ∷ []) 1 (ten 0xC2 0 1) [] (quiet 0 4 (shelfOf 0 (left result) fresh two three) (result ++ replicate 4 0xAA))
-    ∷ row bench (c2 ∷ command 1 (ten 0xC2 0 1) [] room ∷ []) 3 (ten 0xC1 0 1) result (quiet 0 0 (shelfOf 0 (left result) fresh two parity) room)
+    ∷ row bench (c2 ∷ command (to 1) (ten 0xC2 0 1) [] room ∷ []) 3 (ten 0xC1 0 1) result (quiet 0 0 (shelfOf 0 (left result) fresh two parity) room)
     -- C4: "C2 twice: the second is BUSY."
     ∷ row bench (c2 ∷ []) 1 (xdwrite 0x06) fresh (quiet 8 0 afterC2 room)
     -- C5: "C2, XDREAD length 2: 05h/24h/00h, still retained."

@@ -3,16 +3,17 @@ use Prim.Native.Nat.{ℕ}
 use mathlib.Core.List.{List, [], _∷_, _++_}
 use lib.ListN.{replicate}
 use Rattle.image.specs.Bench.{zeros, shelfOf, vacant, holding, one, two, three, bench, fresh, result, afterC2}
+use Rattle.drives.specs.Table.{to}
 use Rattle.meaning.specs.Calls.{Call, command}
 use Rattle.meaning.specs.Examples.Row.{Row, quiet, refused}
 use Rattle.meaning.specs.Examples.Cases.{parity, left, xdwrite, tenWith, ten, room, row, c2}
 
 -- block 0 of drive 1 written by 50h, and read by XDREAD of either set
 abbrev kept : Call
-kept = command 1 (ten 0x50 0 1) fresh room
+kept = command (to 1) (ten 0x50 0 1) fresh room
 
 abbrev readBy : ℕ → Call
-readBy code = command 1 (ten code 0 1) [] room
+readBy code = command (to 1) (ten code 0 1) [] room
 
 -- the room with C1's result
 abbrev handed : List ℕ

@@ -2,6 +2,7 @@
 use Prim.Native.Nat.{ℕ}
 use mathlib.Core.List.{List, [], _∷_, _++_}
 use lib.ListN.{replicate}
+use Rattle.drives.specs.Table.{to}
 use Rattle.sense.specs.Answers.{numberOf}
 use Rattle.meaning.specs.Step.{stepImage, stepRoom, stepOutcome}
 use Rattle.meaning.specs.Calls.{Call, afterCalls}
@@ -27,14 +28,14 @@ pub record Row : Type 0 where
 abbrev pub got : Row → Showed
 got w =
     let m = afterCalls (w .before) (w .start) in
-    let o = stepOutcome m (w .target) (w .cdb) (w .sent) (w .room) in
+    let o = stepOutcome m (to (w .target)) (w .cdb) (w .sent) (w .room) in
     record {
       number = numberOf (o .answer);
       count = o .count;
       sense = o .sense .bytes;
       len = o .sense .len;
-      image = stepImage m (w .target) (w .cdb) (w .sent) (w .room);
-      room = stepRoom m (w .target) (w .cdb) (w .sent) (w .room);
+      image = stepImage m (to (w .target)) (w .cdb) (w .sent) (w .room);
+      room = stepRoom m (to (w .target)) (w .cdb) (w .sent) (w .room);
     }
 
 -- no sense; a plain one, byte for byte

@@ -2,6 +2,7 @@
 use Prim.Native.Nat.{ℕ}
 use mathlib.Core.List.{List, [], _∷_, _++_}
 use lib.ListN.{replicate}
+use Rattle.drives.specs.Table.{to}
 use Rattle.meaning.specs.Calls.{Call, command, reset}
 use Rattle.meaning.specs.Examples.Row.{Showed, Row, quiet, refused}
 use Rattle.image.specs.Bench.{four, zeros, fresh, result}
@@ -44,10 +45,10 @@ full = ranked (held 3 1 0 1 0) (held 1 1 1 1 0) (held 4 2 1 1 1) (held 2 1 0 1 1
 
 -- to drive 1: XDWRITE that retains n blocks from a block on, and XDREAD
 abbrev pub keep : ℕ → ℕ → ℕ → List ℕ → Call
-keep flags block n bytes = command 1 (0xC0 ∷ flags ∷ 0 ∷ 0 ∷ 0 ∷ block ∷ 0 ∷ n ∷ replicate 8 0) bytes room
+keep flags block n bytes = command (to 1) (0xC0 ∷ flags ∷ 0 ∷ 0 ∷ 0 ∷ block ∷ 0 ∷ n ∷ replicate 8 0) bytes room
 
 abbrev xdread : ℕ → ℕ → Call
-xdread block n = command 1 (ten 0xC2 block n) [] room
+xdread block n = command (to 1) (ten 0xC2 block n) [] room
 
 -- one block, and then with NDisc both: slots 0 and 1, ranks 1 and 2
 abbrev pub twice : List Call
@@ -80,13 +81,13 @@ several =
     ∷ row start (again ++ xdread 1 1 ∷ []) 1 1 1 room
     (quiet 0 4 (pair (empty ++ letter 6 ++ zeros) (empty ++ letter 1 ++ zeros) fresh (letter 7)) (letter 1 ++ letter 0xAA))
     -- a reset of drive 1 (index 0) zeroes slots 0 and 3; slot 1 has rank 1, slot 2 rank 2: the one that is not asked for is left
-    ∷ row full (reset 1 ∷ []) 2 1 1 room (quiet 0 4 (ranked empty (held 1 1 1 1 0) empty empty) (letter 0x63 ++ letter 0xAA))
-    ∷ row full (reset 1 ∷ []) 2 0 1 room (quiet 0 4 (ranked empty empty (held 1 2 1 1 1) empty) (letter 0x62 ++ letter 0xAA))
+    ∷ row full (reset (to 1) ∷ []) 2 1 1 room (quiet 0 4 (ranked empty (held 1 1 1 1 0) empty empty) (letter 0x63 ++ letter 0xAA))
+    ∷ row full (reset (to 1) ∷ []) 2 0 1 room (quiet 0 4 (ranked empty empty (held 1 2 1 1 1) empty) (letter 0x62 ++ letter 0xAA))
     -- a room too short is call 5, and the result stays
     ∷ row start (keep 0x06 0 1 fresh ∷ []) 1 0 1 (replicate 3 0xAA)
     (quiet 261 0 (pair (held 1 1 0 1 0 ++ result ++ zeros) (empty ++ zeros ++ zeros) fresh zeros) (replicate 3 0xAA))
     -- a reset of drive 2 zeroes slots 1 and 2
-    ∷ row full (reset 2 ∷ []) 1 0 1 room (quiet 0 4 (ranked empty empty empty (held 1 1 0 1 1)) (letter 0x61 ++ letter 0xAA))
+    ∷ row full (reset (to 2) ∷ []) 1 0 1 room (quiet 0 4 (ranked empty empty empty (held 1 1 0 1 1)) (letter 0x61 ++ letter 0xAA))
     -- a WRITE above M is no XPWRITE
     ∷ command-row full [] 1 (ten 0x2A 0 2) (fresh ++ fresh)
     (quiet 0 0 (rankedOver (fresh ++ fresh) (held 3 1 0 1 0) (held 1 1 1 1 0) (held 4 2 1 1 1) (held 2 1 0 1 1)) room)

@@ -20,8 +20,8 @@ returns-3 c =
     let if1 = c .before .before .before .before .if1 in
     let if2 = c .before .before .before .if2 in
     let span = c .before .before .span in
-    let int = c .before .int in
-    c .sourced .ensures ∙ placed-rebuild _ _ _ _ _ _ _ _ (span .ensures) (int .ensures .0) _ (if1 .left) (if2 .left)
+    let sum-of = c .before .sum-of in
+    c .sourced .ensures ∙ placed-rebuild _ _ _ _ _ _ _ _ (span .ensures) (sum-of .ensures) _ (if1 .left) (if2 .left)
 
 pub placed-spec : {M : Type 1} → statement M
 placed-spec =

@@ -13,8 +13,8 @@ returns-2 c =
     let empty-slot = c .before .before .before .before .before .before .empty-slot in
     let i = c .before .before .before .before .i in
     let span = c .before .before .span in
-    let int = c .before .int in
-    c .sourced .ensures ∙ regenerated-at _ _ _ _ _ _ _ _ (span .ensures) (int .ensures .0) _ _ (sym (empty-slot .ensures) ∙ i .given .1)
+    let sum-of = c .before .sum-of in
+    c .sourced .ensures ∙ regenerated-at _ _ _ _ _ _ _ _ (span .ensures) (sum-of .ensures) _ _ (sym (empty-slot .ensures) ∙ i .given .1)
 
 pub regenerated-spec : {M : Type 1} → statement M
 regenerated-spec =

@@ -9,13 +9,13 @@ use Rattle.gather.proofs.sources.find_all.Statement.{statement}
 use Rattle.gather.proofs.sources.find_all.Tie as tie
 
 abbrev Inv-loop : tie.InvT-loop
-Inv-loop image g sent n places₀ i₀ places i = (i ≤ n) × (length places ≡ length places₀) × (places ≡ startsOver image g sent places₀ i)
+Inv-loop image g came sent n places₀ i₀ places i = (i ≤ n) × (length places ≡ length places₀) × (places ≡ startsOver image g came sent places₀ i)
 
 abbrev μ-loop : tie.MeasureT-loop
-μ-loop image g sent n places₀ i₀ places i = n - i
+μ-loop image g came sent n places₀ i₀ places i = n - i
 
 loop-holds : tie.Need-loop-holds Inv-loop μ-loop
-loop-holds c = (omega arith, refl, starts-none _ _ _ _)
+loop-holds c = (omega arith, refl, starts-none _ _ _ _ _)
 
 read-requires : tie.Need-read-requires Inv-loop μ-loop
 read-requires c κs = omega (arith, c .before .before .before .before .before .pre .0 .long)
@@ -25,17 +25,17 @@ start-requires c κs =
     let pre = c .before .before .before .before .before .before .pre in
     let the-loop = c .before .before .loop in
     let read = c .read in
-    (pre .0 .frame, entry-named _ _ _ _ (the-loop .i) _ (pre .0) (omega arith) (read .ensures .0))
+    (pre .0 .frame, entry-named _ _ _ _ _ (the-loop .i) _ (pre .0) (omega arith) (read .ensures .0))
 
 loop-again : tie.Need-loop-again Inv-loop μ-loop
 loop-again c =
     let the-loop = c .before .before .before .loop in
     let read = c .before .read in
     let start = c .start in
-    (omega arith, simp length-set (omega arith), starts-more _ _ _ _ _ _ _ _ (the-loop .inv .2) (read .ensures .0) (start .ensures))
+    (omega arith, simp length-set (omega arith), starts-more _ _ _ _ _ _ _ _ _ (the-loop .inv .2) (read .ensures .0) (start .ensures))
 
 returns : tie.Need-returns Inv-loop μ-loop
-returns c = starts-done _ _ _ _ _ _ _ (c .before .loop .inv .2) (omega arith) (omega arith)
+returns c = starts-done _ _ _ _ _ _ _ _ (c .before .loop .inv .2) (omega arith) (omega arith)
 
 pub find-all-spec : {M : Type 1} → statement M
 find-all-spec =
