@@ -160,15 +160,14 @@ ten-says code Rebuild a flags block count q t b n = absurd t
 ten-says code Regenerate a flags block count q t b n = absurd t
 ten-says code Unknown a flags block count q t b n = absurd t
 
-pub rebuild-says : (a : Came) (flags count n : ℕ) → count < 4294967296 → 8 + 8 * n < 65536
-    → Says a (rebuildCdb flags count n) Rebuild (listedSaying 0xC3 Rebuild a flags count (8 + 8 * n))
-unfolding cdbOf opOf toBe
-rebuild-says a flags count n c l = record { code = refl; known = refl; size = refl; fields = listed-read 0xC3 Rebuild a flags count (8 + 8 * n) c l }
+module _ (a : Came) (flags count list : ℕ) (c : count < 4294967296) (l : list < 65536) where
+  pub rebuild-says : Says a (cdbOf (listedSaying 0xC3 Rebuild anyhow flags count list)) Rebuild (listedSaying 0xC3 Rebuild a flags count list)
+  unfolding cdbOf opOf toBe
+  rebuild-says = record { code = refl; known = refl; size = refl; fields = listed-read 0xC3 Rebuild a flags count list c l }
 
-pub regenerate-says : (a : Came) (flags count n : ℕ) → count < 4294967296 → 8 + 8 * n < 65536
-    → Says a (regenerateCdb flags count n) Regenerate (listedSaying 0xC4 Regenerate a flags count (8 + 8 * n))
-unfolding cdbOf opOf toBe
-regenerate-says a flags count n c l = record { code = refl; known = refl; size = refl; fields = listed-read 0xC4 Regenerate a flags count (8 + 8 * n) c l }
+  pub regenerate-says : Says a (cdbOf (listedSaying 0xC4 Regenerate anyhow flags count list)) Regenerate (listedSaying 0xC4 Regenerate a flags count list)
+  unfolding cdbOf opOf toBe
+  regenerate-says = record { code = refl; known = refl; size = refl; fields = listed-read 0xC4 Regenerate a flags count list c l }
 
 pub xdwrite-says : (a : Came) (flags block count second spot : ℕ)
     → block < 4294967296 → count < 65536 → second < 16777216 → spot < 4294967296

@@ -4,19 +4,24 @@ use native.Mathlib.Omega.{arith}
 use mathlib.Core.Bool.{false}
 use mathlib.Core.Path.{_≡_}
 use mathlib.Core.List.{List}
+use lib.ListN.{length}
+use Rattle.octets.specs.Put.{put}
 use Rattle.octets.specs.Octets.{Octets}
 use Rattle.folds.specs.declared.Found.the-variants.{At}
 use Rattle.geometry.specs.declared.Geometry.{Geometry}
 use Rattle.drives.specs.declared.Came.{Came}
-use Rattle.drives.specs.Table.{addressOf, to, targetOf, secondaryOf, failed}
+use Rattle.drives.specs.Table.{stateOf, addressOf, to, targetOf, secondaryOf, failed}
 use Rattle.drives.specs.Facts.{table-addresses, address-lt}
 use Rattle.drives.specs.Lookup.{drive-found, drive-inside}
+use Rattle.results.specs.Results.{Result}
 use Rattle.image.specs.Shelf.{Shelf, shelf-frame}
 use Rattle.sense.specs.declared.Answer.the-variants.{Good}
 use Rattle.sense.specs.Sense.{outcomeOf}
 use Rattle.meaning.specs.declared.Span.{Span}
 use Rattle.meaning.specs.declared.Sum.{Sum}
-use Rattle.meaning.specs.Stepped.{Stepped}
+use Rattle.meaning.specs.Acts.{Over}
+use Rattle.meaning.specs.Step.{stepOutcome, stepRoom, stepImage}
+use Rattle.callers.specs.After.{After}
 
 -- what is summed by a command that came as a, with Int Data or not
 abbrev pub summing : Came → ℕ → Sum
@@ -26,9 +31,12 @@ summing a int = record { int = int; came = a }
 abbrev pub blocks : ℕ → ℕ → ℕ → Span
 blocks t b n = record { drive = t; block = record { 0 = b }; count = n }
 
--- on image m a command that came as a, CDB c with data-out bytes s and receive room r is GOOD, hands out n bytes, and leaves image m′ and room r′
-abbrev pub Does : List ℕ → Came → List ℕ → List ℕ → List ℕ → ℕ → List ℕ → List ℕ → Type 0
-Does m a c s r n m′ r′ = Stepped m a c s r (outcomeOf Good n) m′ r′
+-- on image m a command that came as a, CDB c with data-out bytes s and receive room r, is GOOD: the bytes ys go to the room's front, and
+-- afterwards the blocks ws are written and the results rs retained
+pub record Does (m : List ℕ) (g : Geometry) (a : Came) (c s r ys : List ℕ) (ws : List Over) (rs : List Result) : Type 0 where
+  pub outcome : stepOutcome m a c s r ≡ outcomeOf Good (length ys)
+  pub room : stepRoom m a c s r ≡ put r 0 ys
+  pub after : After m (stepImage m a c s r) g (stateOf m g) ws rs
 
 -- a command that came as a was sent to drive t of the valid image m, which is present
 pub record Target (m : List ℕ) (g : Geometry) (a : Came) (t : ℕ) : Type 0 where

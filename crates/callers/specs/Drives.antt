@@ -1,17 +1,19 @@
 -- A reset and a marking for callers: when they are GOOD, and what they leave, in words of results, states and blocks.
 use Prim.Native.Nat.{ℕ, _*_, _≤_, _<_}
 use native.Mathlib.Omega.{arith}
-use mathlib.Core.Bool.{not}
-use mathlib.Core.List.{List}
-use mathlib.Core.Logic.{inr}
-use mathlib.Core.Path.{_≡_, ap, ap₂, _∙_}
-use borrow.Author.Tests.{le-ltb}
+use mathlib.Core.Bool.{Bool, not, cond}
+use lib.Dec.{eqb}
+use mathlib.Core.List.{List, []}
+use mathlib.Core.Logic.{inr, ⊎-elim}
+use mathlib.Core.Path.{_≡_, sym, ap, ap₂, _∙_}
+use borrow.Author.Tests.{le-ltb, eq-eqb, ne-eqb}
+use Rattle.folds.specs.Cases.{same as alike}
 use Rattle.folds.specs.declared.Found.{Found}
 use Rattle.folds.specs.declared.Found.the-variants.{At}
 use Rattle.folds.specs.Least.{index}
 use Rattle.rules.specs.Rule.{AllPass, none-decides}
 use Rattle.geometry.specs.declared.Geometry.{Geometry}
-use Rattle.geometry.specs.Header.{geometryOf, place, slotSize, blocksAt}
+use Rattle.geometry.specs.Header.{geometryOf, slotSize}
 use Rattle.geometry.specs.Frame.{Placed}
 use Rattle.geometry.specs.Outside.{outside-away}
 use Rattle.geometry.specs.Places.{place-after-media}
@@ -29,18 +31,14 @@ use Rattle.image.specs.Shelf.{Shelf, shelf-valid, shelf-frame}
 use Rattle.sense.specs.declared.Answer.the-variants.{Good}
 use Rattle.meaning.specs.Checks.{isNothing, calls}
 use Rattle.meaning.specs.Step.{answered, untouched, resetAnswer, resetImage, markCalls, markAnswer, markImage}
+use Rattle.meaning.specs.Acts.{spanAt, blocksOf}
+use Rattle.callers.specs.After.{After}
 use Rattle.demands_one_two.specs.Calls.{reset-shelf, reset-front, mark-shelf}
 
 -- a call that came as a was made to drive t of the valid image m, present or failed
 pub record Names (m : List ℕ) (g : Geometry) (a : Came) (t : ℕ) : Type 0 where
   pub shelf : Shelf m g
   pub found : targetOf m g a ≡ At t
-
--- what either leaves alone: the image is valid, and no address and no block has moved
-pub record KeepsRest (m t : List ℕ) (g : Geometry) : Type 0 where
-  pub shelf : Shelf t g
-  pub address-kept : (d : ℕ) → d < g .d → addressOf t g d ≡ addressOf m g d
-  pub blocks-kept : (d b n : ℕ) → blocksAt t g d b n ≡ blocksAt m g d b n
 
 module _ (m : List ℕ) (g : Geometry) (a : Came) (t : ℕ) (h : Names m g a t) where
   there : targetOf m (geometryOf m) a ≡ At t
@@ -69,20 +67,17 @@ module _ (m : List ℕ) (g : Geometry) (a : Came) (t : ℕ) (h : Names m g a t) 
   unfolding resetAnswer
   reset-good = none-decides answered (calls m a) Good pass
 
-  pub reset-results : results (resetImage m a) g ≡ keeping (ofOther t) (results m g)
-  reset-results = ap (λ (x : List ℕ). results x g) reset-is ∙ drop-results m g (shelf-frame m g (h .shelf)) (h .shelf .slots-ok) t
-
-  pub reset-states : (d : ℕ) → d < g .d → stateOf (resetImage m a) g d ≡ stateOf m g d
-  reset-states = state-same (resetImage m a) m g p (reset-front m g (h .shelf) a)
-
-  pub reset-rest : KeepsRest m (resetImage m a) g
-  reset-rest =
+  pub reset-does : After m (resetImage m a) g (stateOf m g) [] (keeping (ofOther t) (results m g))
+  reset-does =
       record {
         shelf = reset-shelf m g (h .shelf) a;
+        state-is = state-same (resetImage m a) m g p (reset-front m g (h .shelf) a);
         address-kept = address-same (resetImage m a) m g p (reset-front m g (h .shelf) a);
-        blocks-kept = λ d b n.
-            ap (λ (x : List ℕ). blocksAt x g d b n) reset-is
-            ∙ drop-part m g t (place g d b) _ (outside-away g (place g d b) _ p (inr (place-after-media g d b)));
+        wrote = tt;
+        kept = λ x r o.
+            ap (λ (y : List ℕ). blocksOf y g x) reset-is
+            ∙ drop-part m g t (spanAt g x) _ (outside-away g (spanAt g x) _ p (inr (place-after-media g (x .drive) (x .block .0))));
+        retained = ap (λ (x : List ℕ). results x g) reset-is ∙ drop-results m g (shelf-frame m g (h .shelf)) (h .shelf .slots-ok) t;
       }
 
   -- ---- "Marking writes the state byte alone, and retained results stay."
@@ -99,23 +94,25 @@ module _ (m : List ℕ) (g : Geometry) (a : Came) (t : ℕ) (h : Names m g a t) 
     unfolding markAnswer
     mark-good = none-decides answered (markCalls m a state) Good mark-pass
 
-    pub mark-own : stateOf (markImage m a state) g t ≡ state
-    mark-own = ap (λ (x : List ℕ). stateOf x g t) mark-is ∙ state-marked m g t state (shelf-frame m g (h .shelf)) inside
+    -- its own state, and the others'
+    state-is : (d : ℕ) → stateOf (marked m g t state) g d ≡ cond (eqb d t) state (stateOf m g d)
+    state-is d =
+        ⊎-elim
+        (λ e. ap (stateOf (marked m g t state) g) e
+        ∙ state-marked m g t state (shelf-frame m g (h .shelf)) inside
+        ∙ sym (ap (λ (b : Bool). cond b state (stateOf m g d)) (eq-eqb d t e)))
+        (λ ne. rw (ne-eqb d t ne) (state-marked-other m g t state d ne)) (alike d t)
 
-    pub mark-others : (d : ℕ) → (d ≡ t → ⊥) → stateOf (markImage m a state) g d ≡ stateOf m g d
-    mark-others d ne = ap (λ (x : List ℕ). stateOf x g d) mark-is ∙ state-marked-other m g t state d ne
-
-    pub mark-results : results (markImage m a state) g ≡ results m g
-    mark-results =
-        ap (λ (x : List ℕ). results x g) mark-is
-        ∙ kept-results m (marked m g t state) g p (part-marked m g t state p inside (g .slots) (g .s * slotSize g) (omega arith)) (h .shelf .slots-ok)
-
-    pub mark-rest : KeepsRest m (markImage m a state) g
-    mark-rest =
+    pub mark-does : After m (markImage m a state) g (λ d. cond (eqb d t) state (stateOf m g d)) [] (results m g)
+    mark-does =
         record {
           shelf = mark-shelf m g (h .shelf) a state;
+          state-is = λ d l. ap (λ (x : List ℕ). stateOf x g d) mark-is ∙ state-is d;
           address-kept = λ d l. ap (λ (x : List ℕ). addressOf x g d) mark-is ∙ address-marked m g t state d;
-          blocks-kept = λ d b n.
-              ap (λ (x : List ℕ). blocksAt x g d b n) mark-is
-              ∙ part-marked m g t state p inside (place g d b) _ (omega (arith, place-after-media g d b, p .slots-is, p .media-is));
+          wrote = tt;
+          kept = λ x r o.
+              ap (λ (y : List ℕ). blocksOf y g x) mark-is
+              ∙ part-marked m g t state p inside (spanAt g x) _ (omega (arith, place-after-media g (x .drive) (x .block .0), p .slots-is, p .media-is));
+          retained = ap (λ (x : List ℕ). results x g) mark-is
+              ∙ kept-results m (marked m g t state) g p (part-marked m g t state p inside (g .slots) (g .s * slotSize g) (omega arith)) (h .shelf .slots-ok);
         }

@@ -12,20 +12,27 @@ use Rattle.folds.specs.Least.{index}
 use Rattle.geometry.specs.declared.Geometry.{Geometry}
 use Rattle.geometry.specs.Header.{geometryOf}
 use Rattle.drives.specs.declared.Came.{Came}
-use Rattle.drives.specs.Table.{targetOf}
-use Rattle.image.specs.Shelf.{shelf-valid}
+use Rattle.drives.specs.Table.{stateOf, targetOf}
+use Rattle.results.specs.Results.{results}
+use Rattle.image.specs.Shelf.{Shelf, shelf-valid, shelf-frame}
 use Rattle.sense.specs.declared.Answer.the-variants.{Good}
+use Rattle.sense.specs.Sense.{outcomeOf}
 use Rattle.command.specs.declared.Op.{Op}
 use Rattle.command.specs.declared.Command.{Command}
 use Rattle.command.specs.Command.{sizeOf, commandOf}
 use Rattle.meaning.specs.declared.Act.{Act}
 use Rattle.meaning.specs.declared.Decision.{Decision}
 use Rattle.meaning.specs.declared.Decision.the-variants.{Stop, Go}
-use Rattle.meaning.specs.Acts.{leaves, hands}
+use Rattle.meaning.specs.declared.Seen.{Seen}
+use Rattle.meaning.specs.Acts.{effectOf, leaves, hands}
 use Rattle.meaning.specs.Checks.{isNothing, calls, cdbCalls, known, commandChecks, acts, decideOf}
 use Rattle.meaning.specs.Step.{decided}
-use Rattle.meaning.specs.Stepped.{went}
+use Rattle.meaning.specs.Stepped.{Stepped, stopped, went}
+use Rattle.grants.specs.Granted.{allowed-at}
+use Rattle.demands_one_two.specs.Fine.{fine}
+use Rattle.demands_one_two.specs.Retained.{afterwards}
 use Rattle.callers.specs.Bytes.{Says}
+use Rattle.callers.specs.After.{After, after-none, effect-after}
 use Rattle.callers.specs.Does.{Does, Target}
 
 -- one check after the other
@@ -61,14 +68,31 @@ module _ (m : List ℕ) (g : Geometry) (a : Came) (t : ℕ) (h : Target m g a t)
       then tt)
 
   -- every check passes
-  module _ (o : Op) (k : Command) (x : Act) (w : Says a c o k) (p : AllPass (commandChecks o m g t k s (length r))) (e : acts o m g t k s ≡ Go x Good) where
-    pub does : Does m a c s r (length (hands m g s x)) (leaves m g s x) (put r 0 (hands m g s x))
-    does =
-        went m a c s r x Good g _ _ _ _ (from-four o k w ∙ none-decides Stop (commandChecks o m g t k s (length r)) (acts o m g t k s) p ∙ e)
-        (sym (h .shelf .header)) refl refl refl refl
+  pub goes : (o : Op) (k : Command) (x : Act) → Says a c o k → AllPass (commandChecks o m g t k s (length r)) → acts o m g t k s ≡ Go x Good → decided m a c s r ≡ Go x Good
+  goes o k x w p e = from-four o k w ∙ none-decides Stop (commandChecks o m g t k s (length r)) (acts o m g t k s) p ∙ e
 
-    -- nothing is handed out
-    pub does-quietly : hands m g s x ≡ [] → Does m a c s r 0 (leaves m g s x) r
-    does-quietly z =
-        let d : Does m a c s r 0 (leaves m g s x) (put r 0 []) = subst (λ (y : List ℕ). Does m a c s r (length y) (leaves m g s x) (put r 0 y)) z does in
-        subst (Does m a c s r 0 (leaves m g s x)) (put-nil r 0) d
+-- ---- what such a command leaves
+
+module _ (m : List ℕ) (g : Geometry) (h : Shelf m g) (a : Came) (c s r : List ℕ) (x : Act) (e : decided m a c s r ≡ Go x Good) where
+  -- byte for byte
+  pub exactly : Stepped m a c s r (outcomeOf Good (length (hands m g s x))) (leaves m g s x) (put r 0 (hands m g s x))
+  exactly = went m a c s r x Good g _ _ _ _ e (sym (h .header)) refl refl refl refl
+
+  pub does : Does m g a c s r (hands m g s x) (effectOf m g s x .writes) (afterwards (effectOf m g s x .change) (results m g))
+  does =
+      record {
+        outcome = sym (exactly .outcome);
+        room = sym (exactly .room);
+        after = subst (λ (y : List ℕ). After m y g (stateOf m g) (effectOf m g s x .writes) (afterwards (effectOf m g s x .change) (results m g))) (exactly .image)
+            (effect-after m g h (length r) (effectOf m g s x) (fine m g (shelf-frame m g h) s (length r) x (allowed-at m g h a c s (length r) x Good e)));
+      }
+
+-- a command that a check answers GOOD leaves all as it was
+pub stops : (m : List ℕ) (g : Geometry) → Shelf m g → (a : Came) (c s r : List ℕ) (n : ℕ) (w : Seen) → decided m a c s r ≡ Stop n w Good → Does m g a c s r [] [] (results m g)
+stops m g h a c s r n w e =
+    let z = stopped m a c s r n w Good (outcomeOf Good 0) e refl in
+    record {
+      outcome = sym (z .outcome);
+      room = sym (z .room) ∙ sym (put-nil r 0);
+      after = subst (λ (y : List ℕ). After m y g (stateOf m g) [] (results m g)) (z .image) (after-none m g h);
+    }

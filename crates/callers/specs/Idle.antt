@@ -13,6 +13,7 @@ use Rattle.rules.specs.Rule.{rule, first, first-append, AllPass, none-decides}
 use Rattle.geometry.specs.declared.Geometry.{Geometry}
 use Rattle.drives.specs.declared.Came.{Came}
 use Rattle.drives.specs.Table.{secondaryOf}
+use Rattle.results.specs.Results.{results}
 use Rattle.sense.specs.declared.Answer.the-variants.{Good, WrongCount}
 use Rattle.command.specs.declared.Op.{Op}
 use Rattle.command.specs.declared.Op.the-variants.{XdWrite, XpWrite, XdRead, Rebuild, Regenerate, Read, Write, XdWriteTen, XdWriteRead, Unknown}
@@ -25,10 +26,9 @@ use Rattle.meaning.specs.declared.Decision.the-variants.{Stop}
 use Rattle.meaning.specs.Sources.{isAt}
 use Rattle.meaning.specs.Step.{decided}
 use Rattle.meaning.specs.Checks.{Check, fields, sends, lists, ranges, busy, nested, rooms, acts, commandChecks}
-use Rattle.meaning.specs.Stepped.{stopped}
 use Rattle.callers.specs.Bytes.{Together, tenSaying, sixteenSaying, anyhow, xdwriteCdb, Ten, ten-says, xdwrite-says}
 use Rattle.callers.specs.Does.{Does, Target}
-use Rattle.callers.specs.Goes.{_then_, from-four}
+use Rattle.callers.specs.Goes.{_then_, from-four, stops}
 use Rattle.callers.specs.Limited.{data-passes}
 use Rattle.callers.specs.Xdwrites.{XdwriteByte, together-not}
 
@@ -54,16 +54,16 @@ spared sec x (inl e) = rw e refl
 spared sec x (inr e) = ap (λ (y : Bool). not (eqb sec 3) && y) e ∙ and-false (not (eqb sec 3))
 
 -- checks 4 and 5
-abbrev before : Op → List ℕ → Geometry → ℕ → Command → List Check
+abbrev pub before : Op → List ℕ → Geometry → ℕ → Command → List Check
 before o m g t k = fields o m g t k ++ rule 5 Dash (not (eqb 0 (sends o g k))) WrongCount ∷ []
 
 -- checks 7 to 11
-abbrev behind : Op → List ℕ → Geometry → ℕ → Command → ℕ → List Check
+abbrev pub behind : Op → List ℕ → Geometry → ℕ → Command → ℕ → List Check
 behind o m g t k r = lists o m g t k [] ++ ranges o m g t k [] ++ busy o m g k ++ nested o m g k [] ++ rooms o g k r
 
 module _ (m : List ℕ) (g : Geometry) (a : Came) (t : ℕ) (h : Target m g a t) (b : ℕ) (low : b < 4294967296) (r : List ℕ) where
   -- check 6 decides
-  at-six : (w : Seen) (o : Op) (k : Command) → AllPass (before o m g t k)
+  pub at-six : (w : Seen) (o : Op) (k : Command) → AllPass (before o m g t k)
       → first Stop (before o m g t k ++ rule 6 w true Good ∷ behind o m g t k (length r)) (acts o m g t k []) ≡ Stop 6 w Good
   at-six w o k p =
       let ss = rule 6 w true Good ∷ behind o m g t k (length r) in
@@ -101,15 +101,15 @@ module _ (m : List ℕ) (g : Geometry) (a : Came) (t : ℕ) (h : Target m g a t)
     ten-idle Regenerate q i z = absurd i
     ten-idle Unknown q i z = absurd i
 
-    pub idle-does : (o : Op) → opOf code ≡ o → Idles o → bitAnd flags (zeroBits o) ≡ 0 → Does m a (cdb o) [] r 0 m r
-    idle-does o q i z = stopped m a (cdb o) [] r 6 (Cdb 7) Good _ (ten-idle o q i z) refl
+    pub idle-does : (o : Op) → opOf code ≡ o → Idles o → bitAnd flags (zeroBits o) ≡ 0 → Does m g a (cdbOf (tenSaying code o anyhow flags b 0)) [] r [] [] (results m g)
+    idle-does o q i z = stops m g (h .shelf) a (cdbOf (tenSaying code o anyhow flags b 0)) [] r 6 (Cdb 7) (ten-idle o q i z)
 
   -- XDWRITE, to be retained or with a secondary address that is not the target's
   pub xdwrite-idle : (flags mirror ndisc sec : ℕ) → XdwriteByte flags mirror ndisc sec → (a′ c : ℕ) → a′ < 16777216 → c < 4294967296
-      → (sec ≡ 3) ⊎ (Together sec × (ndisc ≡ 0) × (isAt t (secondaryOf m g a a′) ≡ false)) → Does m a (xdwriteCdb flags b 0 a′ c) [] r 0 m r
+      → (sec ≡ 3) ⊎ (Together sec × (ndisc ≡ 0) × (isAt t (secondaryOf m g a a′) ≡ false)) → Does m g a (xdwriteCdb flags b 0 a′ c) [] r [] [] (results m g)
   xdwrite-idle flags mirror ndisc sec z a′ c small high e =
       let k = sixteenSaying 0xC0 XdWrite a flags b 0 a′ c in
-      stopped m a (xdwriteCdb flags b 0 a′ c) [] r 6 (Cdb 6) Good _
+      stops m g (h .shelf) a (xdwriteCdb flags b 0 a′ c) [] r 6 (Cdb 6)
       (from-four m g a t h (xdwriteCdb flags b 0 a′ c) [] r XdWrite k (xdwrite-says a flags b 0 a′ c low (omega arith) small high)
       ∙ at-six (Cdb 6) XdWrite k
       (ap (λ (x : ℕ). not (eqb x 0)) (z .no-other)
@@ -120,4 +120,4 @@ module _ (m : List ℕ) (g : Geometry) (a : Came) (t : ℕ) (h : Target m g a t)
       then (ap (λ (x : ℕ). not (eqb x 3) && isAt t (secondaryOf m g a a′)) (z .sec-is) ∙ spared sec (isAt t (secondaryOf m g a a′)) (⊎-map (λ q. q) (λ q. q .2) e))
       then refl
       then ap not (eq-eqb 0 (0 * g .l) (omega arith))
-      then tt)) refl
+      then tt))

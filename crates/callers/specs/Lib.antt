@@ -1,7 +1,9 @@
 pub mod Bytes
 pub mod Lists
+pub mod After
 pub mod Does
 pub mod Goes
+pub mod Results
 pub mod Reads
 pub mod Limited
 pub mod Writes
@@ -10,9 +12,8 @@ pub mod Published
 pub mod Idle
 pub mod Sources
 pub mod Listed
+pub mod IdleLists
 pub mod Rebuilds
 pub mod Operands
-pub mod Results
-pub mod Example
 pub mod Next
 pub mod Drives

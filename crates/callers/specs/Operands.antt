@@ -9,24 +9,31 @@ use mathlib.Core.List.{List, [], _∷_, _++_, map}
 use lib.Dec.{eqb}
 use lib.ListN.{length, getD, replicate}
 use Rattle.octets.specs.Part.{part}
-use Rattle.octets.specs.Put.{put}
 use Rattle.octets.specs.Xor.{_⊻_, xor-regroups, xor-itself}
 use Rattle.octets.specs.Operands.{xorAll}
 use Rattle.folds.specs.Each.{EachIs}
 use Rattle.geometry.specs.declared.Geometry.{Geometry}
-use Rattle.geometry.specs.Header.{place, blocksAt}
+use Rattle.geometry.specs.Header.{blocksAt}
 use Rattle.drives.specs.declared.Came.{Came}
 use Rattle.image.specs.Shelf.{shelf-frame}
 use Rattle.command.specs.declared.Source.{Source}
 use Rattle.command.specs.Command.{sourceOf}
-use Rattle.meaning.specs.Acts.{stored, slotStores, namedBlocks, sourcesFrom, gathered}
-use Rattle.meaning.specs.Allowed.{Blocks, Limited, Free}
+use Rattle.meaning.specs.declared.Act.the-variants.{Rebuild, Regenerate}
+use Rattle.meaning.specs.declared.Decision.the-variants.{Go}
+use Rattle.sense.specs.declared.Answer.the-variants.{Good}
+use Rattle.meaning.specs.Acts.{over, namedBlocks, sourcesFrom, gathered}
+use Rattle.meaning.specs.Step.{decided}
+use Rattle.demands_one_two.specs.Effects.{resultIn}
+use Rattle.results.specs.Results.{results}
+use Rattle.meaning.specs.Allowed.{Blocks, Limited, Sourced}
 use Rattle.callers.specs.Bytes.{rebuildCdb, regenerateCdb}
 use Rattle.callers.specs.Lists.{source, listOf, list-headed, list-data}
 use Rattle.callers.specs.Does.{summing, blocks, Does, Target}
 use Rattle.callers.specs.Sources.{Names, read-as, list-sourced}
 use Rattle.callers.specs.Listed.{ListByte, HowLong}
-use Rattle.callers.specs.Rebuilds.{rebuild-does, regenerate-does}
+use Rattle.callers.specs.Rebuilds.{rebuild-goes, regenerate-goes}
+use Rattle.callers.specs.Goes.{does}
+use Rattle.callers.specs.Results.{free-left}
 
 -- the operands: the sources' blocks, and with Int Data the data d
 abbrev pub operands : List ℕ → Geometry → Came → ℕ → List Source → ℕ → List ℕ → List (List ℕ)
@@ -70,20 +77,26 @@ module _ (m : List ℕ) (g : Geometry) (a : Came) (t : ℕ) (h : Target m g a t)
     small : b < 4294967296
     small = omega (arith, w .range .range-in, shelf-frame m g (h .shelf) .placed .ranges .b-high)
 
-    -- REBUILD: the XOR of the operands is written to the target
-    pub rebuild-lists : (count : ℕ) → HowLong (g .b) b n count → (int ≡ 0) ⊎ (count ≡ n)
-        → Does m a (rebuildCdb flags count (length es)) (listOf b es d) r 0 (put m (place g t b) (xorAll (operands m g a n es int d))) r
-    rebuild-lists count how with =
-        subst (λ (x : List ℕ). Does m a (rebuildCdb flags count (length es)) (listOf b es d) r 0 (put m (place g t b) x) r) gathered-is
-        (rebuild-does m g a t h b n (length es) flags int (listOf b es d) r z (list-headed b es d small) few w
-        (list-sourced m g (h .shelf) a (blocks t b n) b es d each int one long) count how with)
+    sourced : Sourced m g (blocks t b n) (summing a int) (listOf b es d)
+    sourced = list-sourced m g (h .shelf) a (blocks t b n) b es d each int one long
 
-    -- REGENERATE: the XOR of the target's own blocks and the operands is retained in slot i
-    pub regenerate-lists : Limited g (blocks t b n) → (i : ℕ) → Free m g i
-        → Does m a (regenerateCdb flags n (length es)) (listOf b es d) r 0
-        (stored m (slotStores m g i 2 (blocks t b n) (blocksAt m g t b n ⊻ xorAll (operands m g a n es int d)))) r
-    regenerate-lists most i v =
-        subst (λ (x : List ℕ). Does m a (regenerateCdb flags n (length es)) (listOf b es d) r 0
-        (stored m (slotStores m g i 2 (blocks t b n) (blocksAt m g t b n ⊻ x))) r) gathered-is
-        (regenerate-does m g a t h b n (length es) flags int (listOf b es d) r z (list-headed b es d small) few w
-        (list-sourced m g (h .shelf) a (blocks t b n) b es d each int one long) most i v)
+    -- REBUILD: the XOR of the operands is written to the target
+    pub rebuild-listed : (count : ℕ) → HowLong (g .b) b n count → (int ≡ 0) ⊎ (count ≡ n)
+        → decided m a (rebuildCdb flags count (length es)) (listOf b es d) r ≡ Go (Rebuild (blocks t b n) (summing a int)) Good
+    rebuild-listed = rebuild-goes m g a t h b n (length es) flags int (listOf b es d) r z (list-headed b es d small) few w sourced
+
+    pub rebuild-does : (count : ℕ) → HowLong (g .b) b n count → (int ≡ 0) ⊎ (count ≡ n)
+        → Does m g a (rebuildCdb flags count (length es)) (listOf b es d) r [] (over (blocks t b n) (xorAll (operands m g a n es int d)) ∷ []) (results m g)
+    rebuild-does count how with =
+        subst (λ (x : List ℕ). Does m g a (rebuildCdb flags count (length es)) (listOf b es d) r [] (over (blocks t b n) x ∷ []) (results m g)) gathered-is
+        (does m g (h .shelf) a (rebuildCdb flags count (length es)) (listOf b es d) r (Rebuild (blocks t b n) (summing a int)) (rebuild-listed count how with))
+
+    -- REGENERATE: the XOR of the target's own blocks and the operands is retained, where one more fits
+    pub regenerate-does : Limited g (blocks t b n) → length (results m g) < g .s
+        → Does m g a (regenerateCdb flags n (length es)) (listOf b es d) r [] []
+        (resultIn 2 (blocks t b n) (blocksAt m g t b n ⊻ xorAll (operands m g a n es int d)) ∷ results m g)
+    regenerate-does most more =
+        let v = free-left m g (h .shelf) more in
+        subst (λ (x : List ℕ). Does m g a (regenerateCdb flags n (length es)) (listOf b es d) r [] [] (resultIn 2 (blocks t b n) (blocksAt m g t b n ⊻ x) ∷ results m g)) gathered-is
+        (does m g (h .shelf) a (regenerateCdb flags n (length es)) (listOf b es d) r (Regenerate (blocks t b n) (summing a int) (v .slot))
+        (regenerate-goes m g a t h b n (length es) flags int (listOf b es d) r z (list-headed b es d small) few w sourced most (v .slot) (v .free)))

@@ -1,5 +1,5 @@
 -- "In every GOOD answer only the named blocks of the media involved are written, besides the slots."
-use mathlib.Core.Path.{_≡_, refl, sym, ap, subst, _∙_}
+use mathlib.Core.Path.{_≡_, refl, ap, _∙_}
 use mathlib.Core.Logic.{_⊎_, inl, inr, ⊎-elim}
 use mathlib.Core.List.{List, [], _∷_}
 use Prim.Native.Nat.{ℕ, _+_, _*_, _≤_}
@@ -36,6 +36,11 @@ OffSlots g a n Stays = Unit {0}
 OffSlots g a n (Comes i kind x bytes) = Away g a n
 OffSlots g a n (Goes i x) = Away g a n
 
+pub off-slots : (g : Geometry) (a n : ℕ) (c : Change) → Away g a n → OffSlots g a n c
+off-slots g a n Stays w = tt
+off-slots g a n (Comes i kind x bytes) w = w
+off-slots g a n (Goes i x) w = w
+
 -- apart from all that an act writes
 abbrev pub Beside : Geometry → ℕ → ℕ → Effect → Type 0
 Beside g a n e = EachIs (λ w. OffSpan g a n (w .blocks)) (e .writes) × OffSlots g a n (e .change)
@@ -43,19 +48,14 @@ Beside g a n e = EachIs (λ w. OffSpan g a n (w .blocks)) (e .writes) × OffSlot
 -- no act writes before the slots
 module _ (g : Geometry) (p : Placed g) where
   pub front-beside : (e : Effect) → Beside g 0 (g .slots) e
-  front-beside e = (before (e .writes), pick (e .change))
+  front-beside e = (before (e .writes), off-slots g 0 (g .slots) (e .change) (inl (omega arith)))
     where
       before : (ws : List Over) → EachIs (λ w. OffSpan g 0 (g .slots) (w .blocks)) ws
       before [] = tt
       before (w ∷ ws) = (inl (omega (arith, span-after-media g (w .blocks), p .slots-is, p .media-is)), before ws)
 
-      pick : (c : Change) → OffSlots g 0 (g .slots) c
-      pick Stays = tt
-      pick (Comes i kind x bytes) = inl (omega arith)
-      pick (Goes i x) = inl (omega arith)
-
 module _ (g : Geometry) (a n : ℕ) where
-  written-beside : (m : List ℕ) (ws : List Over) → EachIs (Covers g) ws → EachIs (λ w. OffSpan g a n (w .blocks)) ws → part (written m g ws) a n ≡ part m a n
+  pub written-beside : (m : List ℕ) (ws : List Over) → EachIs (Covers g) ws → EachIs (λ w. OffSpan g a n (w .blocks)) ws → part (written m g ws) a n ≡ part m a n
   written-beside m [] c o = refl
   written-beside m (w ∷ ws) (c, cs) (o, os) =
       let at = spanAt g (w .blocks) in

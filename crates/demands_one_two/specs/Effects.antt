@@ -53,9 +53,15 @@ Possible m g ws Stays = Unit {0}
 Possible m g ws (Comes i kind x bytes) = (emptySlot m g ≡ At i) × Sound g (resultIn kind x bytes)
 Possible m g ws (Goes i x) = (newestOf m g (x .drive) (x .block .0) ≡ At i) × (ws ≡ [])
 
+-- no drive is written twice
+abbrev pub Distinct : List Over → Type 0
+Distinct [] = Unit {0}
+Distinct (w ∷ ws) = EachIs (λ v. w .blocks .drive ≡ v .blocks .drive → ⊥) ws × Distinct ws
+
 -- and what is handed over fits the room, and 32 bits
 pub record Fine (m : List ℕ) (g : Geometry) (room : ℕ) (e : Effect) : Type 0 where
   pub covers : EachIs (Covers g) (e .writes)
+  pub distinct : Distinct (e .writes)
   pub possible : Possible m g (e .writes) (e .change)
   pub fits : length (e .hands) ≤ room
   pub small : length (e .hands) < 4294967296

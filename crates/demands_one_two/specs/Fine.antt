@@ -18,10 +18,10 @@ use Rattle.results.specs.Results.{Sound}
 use Rattle.meaning.specs.declared.Span.{Span}
 use Rattle.meaning.specs.declared.Act.{Act}
 use Rattle.meaning.specs.declared.Act.the-variants.{Read, Write, XpWrite, XdRead, Couple, Retain, Rebuild, Regenerate, XdWriteRead}
-use Rattle.meaning.specs.Acts.{blocksOf, Over, over, Change, Stays, Effect, effect, resultOf, passedOn, dataOver, gathered, effectOf}
-use Rattle.meaning.specs.Allowed.{Blocks, Filled, Roomy, Limited, Held, Allowed}
+use Rattle.meaning.specs.Acts.{blocksOf, Over, over, Change, effect, resultOf, passedOn, dataOver, effectOf}
+use Rattle.meaning.specs.Allowed.{Blocks, Filled, Roomy, Limited, Allowed}
 use Rattle.meaning.specs.Lengths.{length-laid, length-blocks, length-result, length-gathered}
-use Rattle.demands_one_two.specs.Effects.{resultIn, Covers, Possible, Fine}
+use Rattle.demands_one_two.specs.Effects.{resultIn, Covers, Possible, Distinct, Fine}
 
 module _ (m : List ℕ) (g : Geometry) (f : Framed m g) (s : List ℕ) (room : ℕ) where
   -- ---- blocks written
@@ -29,12 +29,12 @@ module _ (m : List ℕ) (g : Geometry) (f : Framed m g) (s : List ℕ) (room : �
   covering : (x : Span) (ys : List ℕ) → Blocks m g x → length ys ≡ x .count * g .l → Covers g (over x ys)
   covering x ys b e = record { range = b .range; exact = e }
 
-  data-covers : (x : Span) (ndisc : ℕ) → Blocks m g x → Filled g x s → EachIs (Covers g) (dataOver x ndisc s)
+  data-covers : (x : Span) (ndisc : ℕ) → Blocks m g x → Filled g x s → EachIs (Covers g) (dataOver x ndisc s) × Distinct (dataOver x ndisc s)
   data-covers x ndisc b e = pick (eqb ndisc 0)
     where
-      pick : (writes : Bool) → EachIs (Covers g) (cond writes (over x s ∷ []) [])
-      pick true = (covering x s b e, tt)
-      pick false = tt
+      pick : (writes : Bool) → EachIs (Covers g) (cond writes (over x s ∷ []) []) × Distinct (cond writes (over x s ∷ []) [])
+      pick true = ((covering x s b e, tt), (tt, tt))
+      pick false = (tt, tt)
 
   length-passed : (x y : Span) (mirror : ℕ) → Blocks m g x → Blocks m g y → x .count ≡ y .count → Filled g x s → length (passedOn m g x y mirror s) ≡ y .count * g .l
   length-passed x y mirror bx by e l =
@@ -75,22 +75,24 @@ module _ (m : List ℕ) (g : Geometry) (f : Framed m g) (s : List ℕ) (room : �
   none : Handed []
   none = (omega arith, lit< tt)
 
-  made : (hands : List ℕ) (ws : List Over) (c : Change) → Handed hands → EachIs (Covers g) ws → Possible m g ws c → Fine m g room (effect hands ws c)
-  made hands ws c h w p = record { covers = w; possible = p; fits = h .0; small = h .1 }
+  -- at most one drive is written, or two that differ
+  made : (hands : List ℕ) (ws : List Over) (c : Change) → Handed hands → EachIs (Covers g) ws → Distinct ws → Possible m g ws c → Fine m g room (effect hands ws c)
+  made hands ws c h w d p = record { covers = w; distinct = d; possible = p; fits = h .0; small = h .1 }
 
   pub fine : (act : Act) → Allowed m g s room act → Fine m g room (effectOf m g s act)
-  fine (Read x) (b, r) = made _ _ _ (handing x (blocksOf m g x) (in-drive x b) (length-blocks m g f x b) r) tt tt
-  fine (Write x) (b, e) = made _ _ _ none (covering x s b e, tt) tt
-  fine (XpWrite x) (b, e) = made _ _ _ none (covering x _ b (length-own x s b e), tt) tt
+  fine (Read x) (b, r) = made _ _ _ (handing x (blocksOf m g x) (in-drive x b) (length-blocks m g f x b) r) tt tt tt
+  fine (Write x) (b, e) = made _ _ _ none (covering x s b e, tt) (tt, tt) tt
+  fine (XpWrite x) (b, e) = made _ _ _ none (covering x _ b (length-own x s b e), tt) (tt, tt) tt
   fine (XdRead x i) (h, r) =
       made _ _ _
       (handing x (part m (dataAt g i) (x .count * g .l)) (omega (arith, h .limited, f .placed .ranges .m-high)) (length-part m (dataAt g i) (x .count * g .l) (data-in m g i (x .count) f (h .slot-in) (h .limited))) r)
       tt
+      tt
       (h .answers, refl)
-  fine (Couple x y mirror) (bx, by, e, ne, l) = made _ _ _ none (covering y _ by (length-passed x y mirror bx by e l), (covering x s bx l, tt)) tt
+  fine (Couple x y mirror) (bx, by, e, ne, l) = made _ _ _ none (covering y _ by (length-passed x y mirror bx by e l), (covering x s bx l, tt)) ((λ q. ne (sym q), tt), (tt, tt)) tt
   fine (Retain x i mirror ndisc) (b, e, most, v) =
-      made _ _ _ none (data-covers x ndisc b e) (v .takes, sound-in 1 x _ (omega arith) (omega arith) b most (length-result m g f x b mirror s e))
-  fine (Rebuild x j) (b, w) = made _ _ _ none (covering x _ b (length-gathered m g x j s f w), tt) tt
+      made _ _ _ none (data-covers x ndisc b e .0) (data-covers x ndisc b e .1) (v .takes, sound-in 1 x _ (omega arith) (omega arith) b most (length-result m g f x b mirror s e))
+  fine (Rebuild x j) (b, w) = made _ _ _ none (covering x _ b (length-gathered m g x j s f w), tt) (tt, tt) tt
   fine (Regenerate x j i) (b, w, most, v) =
-      made _ _ _ none tt (v .takes, sound-in 2 x _ (omega arith) (omega arith) b most (length-own x _ b (length-gathered m g x j s f w)))
-  fine (XdWriteRead x disable) (b, e, r) = made _ _ _ (handing x (s ⊻ blocksOf m g x) (in-drive x b) (length-result m g f x b 0 s e) r) (data-covers x disable b e) tt
+      made _ _ _ none tt tt (v .takes, sound-in 2 x _ (omega arith) (omega arith) b most (length-own x _ b (length-gathered m g x j s f w)))
+  fine (XdWriteRead x disable) (b, e, r) = made _ _ _ (handing x (s ⊻ blocksOf m g x) (in-drive x b) (length-result m g f x b 0 s e) r) (data-covers x disable b e .0) (data-covers x disable b e .1) tt

@@ -1,6 +1,6 @@
 -- What each act does to the retained results by age; and XDREAD's answer is the newest at its drive and block.
-use mathlib.Core.Path.{_≡_, refl, sym, ap, subst, _∙_}
-use mathlib.Core.List.{List, [], _∷_}
+use mathlib.Core.Path.{_≡_, sym, ap, subst, _∙_}
+use mathlib.Core.List.{List, _∷_}
 use mathlib.Core.Option.{some}
 use Prim.Native.Nat.{ℕ, _*_}
 use Rattle.octets.specs.Part.{part}

@@ -10,7 +10,8 @@ use Rattle.octets.specs.PutPut.{part-put-above}
 use Rattle.geometry.specs.declared.Geometry.{Geometry}
 use Rattle.geometry.specs.Header.{geometryOf}
 use Rattle.drives.specs.declared.Came.{Came}
-use Rattle.image.specs.Shelf.{Shelf}
+use Rattle.drives.specs.Front.{SameFront}
+use Rattle.image.specs.Shelf.{Shelf, shelf-frame}
 use Rattle.sense.specs.declared.Answer.{Answer}
 use Rattle.sense.specs.declared.Answer.the-variants.{Good}
 use Rattle.meaning.specs.declared.Act.{Act}
@@ -20,7 +21,7 @@ use Rattle.meaning.specs.Acts.{effectOf, leaves, hands}
 use Rattle.meaning.specs.Step.{decided, imageAfter, roomAfter, outcomeAfter, stepImage, stepRoom, stepOutcome}
 use Rattle.grants.specs.Granted.{granted, allowed-at}
 use Rattle.demands_one_two.specs.Valid.{leaves-shelf}
-use Rattle.demands_one_two.specs.Beside.{Beside, leaves-beside}
+use Rattle.demands_one_two.specs.Beside.{Beside, front-beside, leaves-beside}
 
 module _ (m : List ℕ) (a : Came) (c s r : List ℕ) where
   -- an answer that is not GOOD leaves image and room as they were
@@ -49,6 +50,17 @@ module _ (m : List ℕ) (a : Came) (c s r : List ℕ) where
   step-beside act x e i n w =
       let f = granted m a c s (length r) act x e in
       ap (λ (d : Decision). part (imageAfter d m s) i n) e ∙ leaves-beside m (geometryOf m) (f .valid) i n s (length r) act (f .allowed) w
+
+  -- and so header and drive table
+  pub step-front : (g : Geometry) → Shelf m g → SameFront (stepImage m a c s r) m g
+  unfolding stepImage
+  step-front g h = pick (decided m a c s r) refl
+    where
+      pick : (d : Decision) → decided m a c s r ≡ d → SameFront (stepImage m a c s r) m g
+      pick (Stop n w x) e = ap (λ (d : Decision). part (imageAfter d m s) 0 (g .slots)) e
+      pick (Go act x) e =
+          step-beside act x e 0 (g .slots)
+          (subst (λ (k : Geometry). Beside k 0 (g .slots) (effectOf m k s act)) (sym (h .header)) (front-beside g (shelf-frame m g h .placed) (effectOf m g s act)))
 
   pub room-beside : (i n : ℕ) → stepOutcome m a c s r .count ≤ i → part (stepRoom m a c s r) i n ≡ part r i n
   unfolding stepOutcome stepRoom

@@ -1,10 +1,10 @@
 -- What one act does: the unread lines stay the retained results, and a row's sum stays what it was but for what is owed.
 --
-use Prim.Native.Nat.{ℕ, _+_, _*_, _≤_, _<_}
+use Prim.Native.Nat.{ℕ, _*_, _≤_, _<_}
 use native.Mathlib.Omega.{arith}
 use mathlib.Core.Bool.{Bool, true, false, cond, and-true}
 use mathlib.Core.Path.{_≡_, refl, sym, ap, ap₂, _∙_}
-use mathlib.Core.Logic.{_⊎_, inl, inr}
+use mathlib.Core.Logic.{inl, inr}
 use mathlib.Core.List.{List, [], _∷_}
 use lib.Dec.{eqb}
 use lib.ListN.{length}
@@ -30,23 +30,18 @@ use Rattle.sums.specs.Change.{sum-same, sum-put}
 use Rattle.meaning.specs.declared.Span.{Span}
 use Rattle.meaning.specs.declared.Act.{Act}
 use Rattle.meaning.specs.declared.Act.the-variants.{Read as ToRead, Write, XpWrite, XdRead, Couple, Retain, Rebuild, Regenerate, XdWriteRead}
-use Rattle.meaning.specs.Acts.{spanAt, blocksOf, over, Change, Stays, Comes, Goes, Effect, storesIn, effectOf, leaves}
+use Rattle.meaning.specs.Acts.{spanAt, blocksOf, over, Effect, storesIn, effectOf, leaves}
 use Rattle.meaning.specs.Allowed.{Blocks, Filled, Allowed}
 use Rattle.meaning.specs.Lengths.{span-after-media, length-blocks}
 use Rattle.demands_one_two.specs.Effects.{written, Fine}
 use Rattle.demands_one_two.specs.Fine.{fine}
-use Rattle.demands_one_two.specs.Beside.{OffSlots, effect-media}
+use Rattle.demands_one_two.specs.Beside.{off-slots, effect-media}
 use Rattle.demands_one_two.specs.Retained.{afterwards, results-after}
 use Rattle.parity.specs.Ledger.{Unread, Line, line, noted, Carries, FairAct}
 use Rattle.parity.specs.Owed.{isOwed, inRow, owed, owed-hit, owed-miss, owed-read, owed-carried}
 use Rattle.parity.specs.Waiting.{waiting, waiting-hit, waiting-miss, waiting-read, waiting-carried}
 
 -- ---- slots are no part of a sum
-
-off-slots : (g : Geometry) (a n : ℕ) (c : Change) → (a + n ≤ g .slots) ⊎ (g .media ≤ a) → OffSlots g a n c
-off-slots g a n Stays w = tt
-off-slots g a n (Comes i kind x bytes) w = w
-off-slots g a n (Goes i x) w = w
 
 effect-sum : (m : List ℕ) (g : Geometry) → Shelf m g → (room : ℕ) (e : Effect) → Fine m g room e → (r : ℕ)
     → rowSum (stored m (storesIn m g e)) g r ≡ rowSum (written m g (e .writes)) g r
