@@ -89,7 +89,7 @@ module _ (s : List ℕ) (g : Geometry) (x : Span) (j : Sum) (sent : List ℕ) (f
         let p = span-after-media g x in
         record {
           listed = sources-listed;
-        counted = e;
+          counted = e;
           some-source = omega (arith, h .some-source);
           exact = λ q. omega (arith, int-exact s g x j sent frame h q);
           own-in = omega (arith, span-in s g x frame (b .range));

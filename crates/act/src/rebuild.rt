@@ -29,14 +29,7 @@ pub fn rebuild(image: &mut [u8], g: Geometry, x: Span, j: Sum, sent: &[u8])
 }
 
 // REGENERATE: the XOR of the sources and of the blocks of x goes to slot i.
-pub fn regenerate(
-    image: &mut [u8],
-    g: Geometry,
-    x: Span,
-    j: Sum,
-    i: usize,
-    sent: &[u8],
-)
+pub fn regenerate(image: &mut [u8], g: Geometry, x: Span, j: Sum, i: usize, sent: &[u8])
     requires { ⌜ Framed (now image) g × Allowed (now image) g (now sent) 0 (Regenerate x j i) ⌝ }
     ensures { λ _. ⌜ now (image .exit) ≡ leaves (now (image .entry)) g (now (sent .entry)) (Regenerate x j i) ⌝ }
 {

@@ -70,7 +70,15 @@ fn regenerated(n: usize, image: &[u8], g: Geometry, t: usize, k: Command, sent: 
 }
 
 // The first source with a fault decides; where none has one the command goes.
-fn sourced(n: usize, image: &[u8], g: Geometry, came: Came, count: usize, sent: &[u8], act: Act) -> Decision
+fn sourced(
+    n: usize,
+    image: &[u8],
+    g: Geometry,
+    came: Came,
+    count: usize,
+    sent: &[u8],
+    act: Act,
+) -> Decision
     requires { ⌜ Framed (now image) g × (8 + 8 * n ≤ length (now sent)) × (count < 4294967296) ⌝ }
     ensures { λ r. ⌜ r ≡ faultOr (firstBad (now (image .entry)) g came (now (sent .entry)) count 0 n) (Go act Good) ⌝ }
 {

@@ -39,7 +39,14 @@ pub fn own_entry(image: &[u8], g: Geometry, came: Came, sent: &[u8], n: usize, t
 
 // What is wrong with the first of n entries that fails: its address is in no entry of the table, or
 // the drive has failed, or its `count` blocks pass the drive's end.
-pub fn first_bad(image: &[u8], g: Geometry, came: Came, sent: &[u8], n: usize, count: usize) -> Fault
+pub fn first_bad(
+    image: &[u8],
+    g: Geometry,
+    came: Came,
+    sent: &[u8],
+    n: usize,
+    count: usize,
+) -> Fault
     requires { ⌜ Framed (now image) g × (8 + 8 * n ≤ length (now sent)) × (count < 4294967296) ⌝ }
     ensures { λ r. ⌜ r ≡ firstBad (now (image .entry)) g came (now (sent .entry)) count 0 n ⌝ }
 {
