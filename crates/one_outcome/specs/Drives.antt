@@ -11,8 +11,14 @@ is-failed-once = equation
 pub address-once : Only drives.address.Reads.Post (λ _ r _. r)
 address-once = from (λ _ _ _ _ p. ap (λ (n : ℕ). record { 0 = n }) (p .0))
 
-pub find-drive-once : Only drives.find_drive.Reads.Post (λ _ r _. r)
-find-drive-once = equation
+pub find-target-once : Only drives.find_target.Reads.Post (λ _ r _. r)
+find-target-once = equation
+
+pub find-secondary-once : Only drives.find_secondary.Reads.Post (λ _ r _. r)
+find-secondary-once = equation
+
+pub find-source-once : Only drives.find_source.Reads.Post (λ _ r _. r)
+find-source-once = equation
 
 pub table-ok-once : Only drives.table_ok.Reads.Post (λ _ r _. r)
 table-ok-once = equation

@@ -16,5 +16,5 @@ xor-sources-once = equation
 pub xor-int-once : Only inner.xor-int (λ _ _ s. now (s .0))
 xor-int-once = equation
 
-pub find-all-once : Only inner.find-all (λ _ _ s. now (s .1 .1 .1 .1 .0))
+pub find-all-once : Only inner.find-all (λ _ _ s. now (s .1 .1 .1 .1 .1 .0))
 find-all-once = equation

@@ -9,7 +9,8 @@ use Rattle.octets.specs.Octets.{Octets}
 use Rattle.octets.specs.Xor.{_⊻_}
 use Rattle.geometry.specs.declared.Geometry.{Geometry}
 use Rattle.geometry.specs.Header.{place}
-use Rattle.drives.specs.Table.{addressOf, failed}
+use Rattle.drives.specs.declared.Came.{Came}
+use Rattle.drives.specs.Table.{addressOf, to, failed}
 use Rattle.results.specs.Results.{results}
 use Rattle.image.specs.Shelf.{Shelf}
 use Rattle.sums.specs.Row.{rowSum}
@@ -37,7 +38,7 @@ done image answer = record { image = image; answer = answer }
 
 -- image, target, CDB, data-out bytes, receive room
 abbrev pub AnyStep : Type 0
-AnyStep = List ℕ → ℕ → List ℕ → List ℕ → List ℕ → Done
+AnyStep = List ℕ → Came → List ℕ → List ℕ → List ℕ → Done
 
 abbrev pub theStep : AnyStep
 theStep m a c s r = done (stepImage m a c s r) (stepOutcome m a c s r .answer)
@@ -98,7 +99,7 @@ overwritten m g d b ys = put m (place g d b) ys
 -- REBUILD to drive d on that image, "at the same blocks"
 abbrev pub rebuilt : AnyStep → List ℕ → Geometry → ℕ → ℕ → List ℕ → List ℕ → ℕ → ℕ → List ℕ → Done
 rebuilt step m g d b ys es sec count room =
-    step (overwritten m g d b ys) (addressOf m g d) (rebuildCdb sec count (length es)) (listOf b (map (sourceAt m g b) es) []) room
+    step (overwritten m g d b ys) (to (addressOf m g d)) (rebuildCdb sec count (length es)) (listOf b (map (sourceAt m g b) es) []) room
 
 -- it answers GOOD and leaves the image of before the overwriting, slots and all
 pub record BringsBack (m : List ℕ) (x : Done) : Type 0 where

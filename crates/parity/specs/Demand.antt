@@ -9,6 +9,7 @@ use lib.ListN.{length, replicate}
 use Rattle.octets.specs.Octets.{Octets}
 use Rattle.octets.specs.Xor.{_⊻_, xor-nil, xor-cancels}
 use Rattle.geometry.specs.declared.Geometry.{Geometry}
+use Rattle.drives.specs.declared.Came.{Came}
 use Rattle.drives.specs.Table.{addressOf}
 use Rattle.drives.specs.Facts.{address-lt}
 use Rattle.drives.specs.Front.{address-same}
@@ -90,7 +91,7 @@ pub ledger-is-results : (m : List ℕ) (g : Geometry) → Start m g → (xs : Li
 ledger-is-results m g start xs = run-tallies g xs m [] (start .valid) (waiting-none ∙ sym (start .nothing-retained))
 
 -- what XDREAD hands out is the newest unread line at its drive and block, whole
-pub read-is-newest : (m : List ℕ) (g : Geometry) → Start m g → (xs : List Call) (a : ℕ) (c s r : List ℕ) (x : Span) (i : ℕ) (y : Answer)
+pub read-is-newest : (m : List ℕ) (g : Geometry) → Start m g → (xs : List Call) (a : Came) (c s r : List ℕ) (x : Span) (i : ℕ) (y : Answer)
     → decided (afterCalls xs m) a c s r ≡ Go (XdRead x i) y
     → (ρ : Result) × (firstOf (answers (x .drive) (x .block .0)) (waiting (ledger xs m)) ≡ some ρ) × (hands (afterCalls xs m) g s (XdRead x i) ≡ ρ .bytes)
 read-is-newest m g start xs a c s r x i y e =
@@ -100,7 +101,7 @@ read-is-newest m g start xs a c s r x i y e =
     (resultAt t g i, ap (firstOf (answers (x .drive) (x .block .0))) (ledger-is-results m g start xs) ∙ w .0, w .1)
 
 -- what a 53h hands out is the line that it leaves, read in the same step
-pub xdwriteread-is-read : (m : List ℕ) (g : Geometry) → Start m g → (xs : List Call) (a : ℕ) (c s r : List ℕ) (x : Span) (disable : ℕ) (y : Answer)
+pub xdwriteread-is-read : (m : List ℕ) (g : Geometry) → Start m g → (xs : List Call) (a : Came) (c s r : List ℕ) (x : Span) (disable : ℕ) (y : Answer)
     → decided (afterCalls xs m) a c s r ≡ Go (XdWriteRead x disable) y
     → ledger (xs ++ command a c s r ∷ []) m
     ≡ line (resultIn 1 x (hands (afterCalls xs m) g s (XdWriteRead x disable))) (eqb disable 0) Read ∷ ledger xs m

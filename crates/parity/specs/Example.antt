@@ -20,7 +20,7 @@ use Rattle.folds.specs.Same.{sameList}
 use Rattle.folds.specs.Count.{countBelow}
 use Rattle.folds.specs.Least.{leastBelow}
 use Rattle.geometry.specs.Header.{rangesOk, offsetsOk, framedOk, slotAt, place}
-use Rattle.drives.specs.Table.{statesOk, newAddress, addressesOk, tableOk, driveOf, marked}
+use Rattle.drives.specs.Table.{statesOk, newAddress, addressesOk, tableOk, driveOf, to, marked}
 use Rattle.slots.specs.Record.{slotOf, bytesOf}
 use Rattle.slots.specs.Slots.{slotOk, eachOk, ranksOk, slotsOk}
 use Rattle.slots.specs.Find.{emptySlot, better, bestOf, newestOf}
@@ -56,13 +56,13 @@ bench-start = record { valid = bench-shelf; nothing-retained = refl }
 -- C2 and its XDREAD; XPWRITE of the result, first to a failed drive, which is refused and carries nothing; a coupled write
 abbrev pub paying : List Call
 paying =
-    command 1 (xdwrite 0x06) fresh room
-    ∷ command 1 (ten 0xC2 0 1) [] room
-    ∷ marking 3 1
-    ∷ command 3 (ten 0xC1 0 1) result room
-    ∷ marking 3 0
-    ∷ command 3 (ten 0xC1 0 1) result room
-    ∷ command 2 (xdwrite 0x00) (four 0x11 0x22 0x33 0x44) room
+    command (to 1) (xdwrite 0x06) fresh room
+    ∷ command (to 1) (ten 0xC2 0 1) [] room
+    ∷ marking (to 3) 1
+    ∷ command (to 3) (ten 0xC1 0 1) result room
+    ∷ marking (to 3) 0
+    ∷ command (to 3) (ten 0xC1 0 1) result room
+    ∷ command (to 2) (xdwrite 0x00) (four 0x11 0x22 0x33 0x44) room
     ∷ []
 
 abbrev pub paidImage : List ℕ
@@ -80,7 +80,7 @@ paidLedger = line (ofFirst result) true Carried ∷ []
 
 -- and one more result, which a reset drops
 abbrev pub losing : List Call
-losing = paying ++ command 1 (xdwrite 0x06) zeros room ∷ reset 1 ∷ []
+losing = paying ++ command (to 1) (xdwrite 0x06) zeros room ∷ reset (to 1) ∷ []
 
 abbrev pub lostImage : List ℕ
 lostImage = shelfOf 0 (left fresh) zeros (four 0x11 0x22 0x33 0x44) (four 0xEE 0x22 0xCC 0x44)
@@ -103,7 +103,7 @@ abbrev pub third : Span
 third = record { drive = 2; block = record { 0 = 0 }; count = 1 }
 
 abbrev pub carryBy : ℕ → List ℕ → Call
-carryBy code sent = command 3 (ten code 0 1) sent room
+carryBy code sent = command (to 3) (ten code 0 1) sent room
 
 -- a line that is read can be carried there
 pub carries : (drive : ℕ) (bytes : List ℕ) (es : List Line) → List·Memᴰ (line (resultOn drive bytes) true Read) es → Carries es third bytes
@@ -152,7 +152,7 @@ paying-whole =
     record {
       start = bench-start;
       bytes = small-octets bench refl;
-      fair = fair-front afterCall paying (command 1 (xdwrite 0x06) zeros room ∷ reset 1 ∷ []) bench [] losing-fair;
+      fair = fair-front afterCall paying (command (to 1) (xdwrite 0x06) zeros room ∷ reset (to 1) ∷ []) bench [] losing-fair;
       began-zero = bench-zero;
       nothing-owed = subst (NothingOwed benchShape 0 2) (sym (run-computed .1)) (none-owed paidLedger (refl, tt));
       all-present = subst (λ (m : List ℕ). AllPresent m benchShape) (sym (run-computed .0)) (present paidImage refl refl refl);

@@ -13,7 +13,7 @@ use Rattle.folds.specs.Same.{sameList}
 use Rattle.folds.specs.Count.{countBelow}
 use Rattle.folds.specs.Least.{leastBelow}
 use Rattle.geometry.specs.Header.{rangesOk, offsetsOk, framedOk, slotAt, place}
-use Rattle.drives.specs.Table.{statesOk, newAddress, addressesOk, tableOk, driveOf}
+use Rattle.drives.specs.Table.{statesOk, newAddress, addressesOk, tableOk, driveOf, to}
 use Rattle.slots.specs.Record.{slotOf, bytesOf}
 use Rattle.slots.specs.Slots.{slotOk, eachOk, ranksOk, slotsOk}
 use Rattle.slots.specs.Find.{emptySlot, better, bestOf, newestOf}
@@ -35,10 +35,10 @@ use Rattle.parity.specs.Example.{ofFirst, third, carryBy, carries}
 -- drive 1 gets new data and then its old block back; both results are read
 abbrev pub twice : List Call
 twice =
-    command 1 (xdwrite 0x06) fresh room
-    ∷ command 1 (ten 0xC2 0 1) [] room
-    ∷ command 1 (xdwrite 0x06) one room
-    ∷ command 1 (ten 0xC2 0 1) [] room
+    command (to 1) (xdwrite 0x06) fresh room
+    ∷ command (to 1) (ten 0xC2 0 1) [] room
+    ∷ command (to 1) (xdwrite 0x06) one room
+    ∷ command (to 1) (ten 0xC2 0 1) [] room
     ∷ []
 
 -- the result, to drive 3

@@ -12,6 +12,7 @@ use Rattle.geometry.specs.Header.{place, slotSize}
 use Rattle.geometry.specs.Frame.{Placed}
 use Rattle.geometry.specs.Places.{place-after-media}
 use Rattle.geometry.specs.Outside.{outside-away}
+use Rattle.drives.specs.declared.Came.{Came}
 use Rattle.drives.specs.Table.{marked}
 use Rattle.drives.specs.Marked.{part-marked}
 use Rattle.slots.specs.Change.{dropped}
@@ -82,14 +83,14 @@ module _ (m : List ℕ) (g : Geometry) (h : Shelf m g) (es : List Line) where
       (λ d ld. drop-part m g drive (place g d r) (g .l) (outside-away g (place g d r) (g .l) p (inr (place-after-media g d r)))))
       (owed-dropped g r drive es)
 
-  pub resets-tallies : (a : ℕ) → Tallies g m es → Tallies g (resetImage m a) (notedCall (reset a) m es)
+  pub resets-tallies : (a : Came) → Tallies g m es → Tallies g (resetImage m a) (notedCall (reset a) m es)
   unfolding resetImage
   resets-tallies a e =
       first-both (untouched m) (untouched es) (Tallies g) (calls m a) _ _ (λ n w x. e)
       (λ ps. subst (λ (k : Geometry). Tallies g (dropped m k (target m a)) (onEach (waitsOn (target m a)) (become Dropped) es)) (sym (h .header))
       (reset-tallies (target m a) e))
 
-  pub resets-sum : (a : ℕ) → SumKept g m es (resetImage m a) (notedCall (reset a) m es)
+  pub resets-sum : (a : Came) → SumKept g m es (resetImage m a) (notedCall (reset a) m es)
   unfolding resetImage
   resets-sum a =
       first-both (untouched m) (untouched es) (SumKept g m es) (calls m a) _ _ (λ n w x r l. refl)
@@ -108,14 +109,14 @@ module _ (m : List ℕ) (g : Geometry) (h : Shelf m g) (es : List Line) where
       (sum-same m (marked m g i state) g r (marked-counts m g i state)
       (λ d ld. part-marked m g i state p l (place g d r) (g .l) (omega (arith, place-after-media g d r, p .slots-is, p .media-is))))
 
-  pub marks-tallies : (a state : ℕ) → Tallies g m es → Tallies g (markImage m a state) es
+  pub marks-tallies : (a : Came) (state : ℕ) → Tallies g m es → Tallies g (markImage m a state) es
   unfolding markImage
   marks-tallies a state e =
       first-cases (untouched m) (λ t. Tallies g t es) (markCalls m a state) _ (λ n w x. e)
       (λ ps. subst (λ (k : Geometry). target m a < k .d → Tallies g (marked m k (target m a) state) es) (sym (h .header))
       (λ l. mark-tallies (target m a) state l e) (target-in m a (ps .1 .0)))
 
-  pub marks-sum : (a state : ℕ) → SumKept g m es (markImage m a state) es
+  pub marks-sum : (a : Came) (state : ℕ) → SumKept g m es (markImage m a state) es
   unfolding markImage
   marks-sum a state =
       first-cases (untouched m) (λ t. SumKept g m es t es) (markCalls m a state) _ (λ n w x r l. refl)

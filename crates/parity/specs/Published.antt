@@ -16,7 +16,7 @@ use Rattle.folds.specs.Same.{sameList}
 use Rattle.folds.specs.Count.{countBelow}
 use Rattle.folds.specs.Least.{leastBelow}
 use Rattle.geometry.specs.Header.{rangesOk, offsetsOk, framedOk, slotAt, place}
-use Rattle.drives.specs.Table.{statesOk, newAddress, addressesOk, tableOk, driveOf}
+use Rattle.drives.specs.Table.{statesOk, newAddress, addressesOk, tableOk, driveOf, to}
 use Rattle.slots.specs.Record.{slotOf, bytesOf}
 use Rattle.slots.specs.Slots.{slotOk, eachOk, ranksOk, slotsOk}
 use Rattle.slots.specs.Find.{emptySlot, better, bestOf, newestOf}
@@ -41,7 +41,7 @@ use Rattle.parity.specs.Example.{bench-start, resultOn, ofFirst, third, 
 
 -- data to block 0 of drive 1 by 53h, its byte 1 given
 abbrev pub xdwriteread : ℕ → List ℕ → Call
-xdwriteread flags sent = command 1 (tenWith 0x53 flags 0 1) sent room
+xdwriteread flags sent = command (to 1) (tenWith 0x53 flags 0 1) sent room
 
 -- drive 2's result
 abbrev pub change : List ℕ
@@ -52,8 +52,8 @@ abbrev pub settling : List Call
 settling =
     xdwriteread 0x00 fresh
     ∷ carryBy 0x51 result
-    ∷ command 2 (ten 0x50 0 1) (four 0x11 0x22 0x33 0x44) room
-    ∷ command 2 (ten 0x52 0 1) [] room
+    ∷ command (to 2) (ten 0x50 0 1) (four 0x11 0x22 0x33 0x44) room
+    ∷ command (to 2) (ten 0x52 0 1) [] room
     ∷ carryBy 0xC1 change
     ∷ xdwriteread 0x04 zeros
     ∷ []

@@ -19,7 +19,8 @@ use Rattle.geometry.specs.Header.{place, blocksAt}
 use Rattle.geometry.specs.Frame.{Framed}
 use Rattle.geometry.specs.Places.{Range, place-after-media}
 use Rattle.geometry.specs.Written.{other-drive}
-use Rattle.drives.specs.Table.{addressOf, failed, driveOf}
+use Rattle.drives.specs.declared.Came.{Came}
+use Rattle.drives.specs.Table.{addressOf, failed, to, sourceDrive}
 use Rattle.drives.specs.Facts.{table-addresses}
 use Rattle.drives.specs.Front.{SameFront, front-put, failed-same, drive-same}
 use Rattle.drives.specs.Lookup.{drive-found}
@@ -66,14 +67,18 @@ module _ (m : List ℕ) (g : Geometry) (h : Shelf m g) (up : AllPresent m g) (sm
   shelf : Shelf t g
   shelf = shelf-written m g h at ys (place-after-media g d b)
 
-  found : (e : ℕ) → e < g .d → driveOf t g (addressOf m g e) ≡ At e
+  -- REBUILD is sent to drive d's own address
+  abbrev a : Came
+  a = to (addressOf m g d)
+
+  found : (e : ℕ) → e < g .d → sourceDrive t g a (addressOf m g e) ≡ At e
   found e l = drive-same t m g (f .placed) same-front (addressOf m g e) ∙ drive-found m g (table-addresses m g (h .table-ok)) e l
 
   present : (e : ℕ) → e < g .d → failed t g e ≡ false
   present e l = failed-same t m g (f .placed) same-front e l ∙ up e l
 
   -- each source names its drive
-  names : (e : ℕ) → Other (g .d) d e → Names t g (blocks d b n) (sourceAt m g b e)
+  names : (e : ℕ) → Other (g .d) d e → Names t g a (blocks d b n) (sourceAt m g b e)
   names e o =
       record {
         there = record {
@@ -93,31 +98,31 @@ module _ (m : List ℕ) (g : Geometry) (h : Shelf m g) (up : AllPresent m g) (sm
   abbrev sources : List Source
   sources = map (sourceAt m g b) es
 
-  named-rows : (e : ℕ) → Other (g .d) d e → namedBlocks t g n (sourceAt m g b e) ≡ blocksAt m g e b n
+  named-rows : (e : ℕ) → Other (g .d) d e → namedBlocks t g a n (sourceAt m g b e) ≡ blocksAt m g e b n
   named-rows e o = ap (λ (x : Found). blocksAt t g (index x) b n) (found e (o .0)) ∙ same-rows e o
 
   -- what is gathered are the old bytes
-  gathers : ZeroSums m g b n → xorAll (operands t g n sources 0 []) ≡ blocksAt m g d b n
+  gathers : ZeroSums m g b n → xorAll (operands t g a n sources 0 []) ≡ blocksAt m g d b n
   gathers zeros =
-      ap xorAll (append-nil (map (namedBlocks t g n) sources)
-      ∙ map-map (namedBlocks t g n) (sourceAt m g b) es
-      ∙ map-same (λ (e : ℕ). namedBlocks t g n (sourceAt m g b e)) (λ (e : ℕ). blocksAt m g e b n) es (λ e k. named-rows e (each-mem (Other (g .d) d) es each e k)))
+      ap xorAll (append-nil (map (namedBlocks t g a n) sources)
+      ∙ map-map (namedBlocks t g a n) (sourceAt m g b) es
+      ∙ map-same (λ (e : ℕ). namedBlocks t g a n (sourceAt m g b e)) (λ (e : ℕ). blocksAt m g e b n) es (λ e k. named-rows e (each-mem (Other (g .d) d) es each e k)))
       ∙ old-bytes m g f b n d range es (w .every-other) zeros
 
   -- and so it writes them
-  writes : ZeroSums m g b n → put t at (xorAll (operands t g n sources 0 [])) ≡ m
+  writes : ZeroSums m g b n → put t at (xorAll (operands t g a n sources 0 [])) ≡ m
   writes zeros =
       ap (put t at) (gathers zeros)
       ∙ put-put m at ys (blocksAt m g d b n) (omega (arith, w .as-long, length-rows m g f b n d range d (w .drive-in)))
       ∙ put-part m at (n * g .l)
 
   does : (room : List ℕ)
-      → Does t (addressOf m g d) (rebuildCdb sec count (length es)) (listOf b sources []) room 0 (put t at (xorAll (operands t g n sources 0 []))) room
+      → Does t a (rebuildCdb sec count (length es)) (listOf b sources []) room 0 (put t at (xorAll (operands t g a n sources 0 []))) room
   does room =
       let many : length sources ≡ length es = length-map es (sourceAt m g b) in
-      subst (λ (k : ℕ). Does t (addressOf m g d) (rebuildCdb sec count k) (listOf b sources []) room 0 (put t at (xorAll (operands t g n sources 0 []))) room) many
-      (rebuild-lists t g (addressOf m g d) d (record { shelf = shelf; found = found d (w .drive-in); present = present d (w .drive-in) }) b n sources 0 []
-      (each-map (sourceAt m g b) (Other (g .d) d) (Names t g (blocks d b n)) names es each) refl
+      subst (λ (k : ℕ). Does t a (rebuildCdb sec count k) (listOf b sources []) room 0 (put t at (xorAll (operands t g a n sources 0 []))) room) many
+      (rebuild-lists t g a d (record { shelf = shelf; found = found d (w .drive-in); present = present d (w .drive-in) }) b n sources 0 []
+      (each-map (sourceAt m g b) (Other (g .d) d) (Names t g a (blocks d b n)) names es each) refl
       (omega (arith, many, how-many, f .placed .ranges .d-low)) (omega (arith, many, how-many, f .placed .ranges .d-high))
       (record { range = range; present = present d (w .drive-in); some = w .some-rows }) room sec (together-byte sec (w .together)) count (w .how-long) (inl refl))
 

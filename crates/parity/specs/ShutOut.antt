@@ -18,7 +18,8 @@ use Rattle.folds.specs.Count.{countBelow}
 use Rattle.folds.specs.Least.{leastBelow}
 use Rattle.geometry.specs.declared.Geometry.{Geometry}
 use Rattle.geometry.specs.Header.{geometryOf, rangesOk, offsetsOk, framedOk, slotAt, place}
-use Rattle.drives.specs.Table.{statesOk, newAddress, addressesOk, tableOk, driveOf}
+use Rattle.drives.specs.declared.Came.{Came}
+use Rattle.drives.specs.Table.{statesOk, newAddress, addressesOk, tableOk, driveOf, to}
 use Rattle.slots.specs.Record.{slotOf, bytesOf}
 use Rattle.slots.specs.Slots.{slotOk, eachOk, ranksOk, slotsOk}
 use Rattle.slots.specs.Find.{emptySlot, better, bestOf, newestOf}
@@ -36,6 +37,7 @@ use Rattle.sense.specs.declared.Answer.the-variants.{Good}
 use Rattle.command.specs.Command.{opOf, sixteenOf, tenOf, listedOf, ownOf, resolvedOf, listBytes, sourceOf}
 use Rattle.command.specs.Lossless.{cdbOf}
 use Rattle.meaning.specs.declared.Span.{Span}
+use Rattle.meaning.specs.declared.Sum.{Sum}
 use Rattle.meaning.specs.declared.Act.{Act}
 use Rattle.meaning.specs.declared.Act.the-variants.{Read as ToRead, Write, XpWrite, XdRead, Couple, Retain, Rebuild, Regenerate, XdWriteRead}
 use Rattle.meaning.specs.declared.Decision.{Decision}
@@ -88,7 +90,7 @@ on-spare = at-once spare spare-start (small-octets spare refl) spare-zero (prese
 -- ---- steps that do not do the work
 
 -- one that refuses everything
-pub refusing-not : (step : AnyStep) → ((m : List ℕ) (a : ℕ) (c s r : List ℕ) → step m a c s r .answer ≡ Good → ⊥) → Restores (callBy step) step → ⊥
+pub refusing-not : (step : AnyStep) → ((m : List ℕ) (a : Came) (c s r : List ℕ) → step m a c s r .answer ≡ Good → ⊥) → Restores (callBy step) step → ⊥
 refusing-not step never h = never _ _ _ _ _ (h bench benchShape [] 1 0 2 junk (0 ∷ 2 ∷ []) 2 0xFFFFFFFF (on-bench (callBy step)) both-rows room .good)
 
 -- one that always answers GOOD and leaves the same bytes
@@ -103,10 +105,10 @@ constant-not k h =
     omega arith
 
 -- one that does nothing, whatever it answers
-abbrev pub idling : (List ℕ → ℕ → List ℕ → List ℕ → List ℕ → Answer) → AnyStep
+abbrev pub idling : (List ℕ → Came → List ℕ → List ℕ → List ℕ → Answer) → AnyStep
 idling answer m a c s r = done m (answer m a c s r)
 
-pub idling-not : (answer : List ℕ → ℕ → List ℕ → List ℕ → List ℕ → Answer) → Restores (callBy (idling answer)) (idling answer) → ⊥
+pub idling-not : (answer : List ℕ → Came → List ℕ → List ℕ → List ℕ → Answer) → Restores (callBy (idling answer)) (idling answer) → ⊥
 unfolding put place
 idling-not answer h =
     let x = h bench benchShape [] 1 0 2 junk (0 ∷ 2 ∷ []) 2 0xFFFFFFFF (on-bench (callBy (idling answer))) both-rows room .back in
@@ -126,29 +128,29 @@ abbrev pub actingBy : Acting → AnyStep
 actingBy f m a c s r = done (leftBy f (decided m a c s r) m s) (stepOutcome m a c s r .answer)
 
 -- another REBUILD, coupled write, XPWRITE and XDWRITEREAD; what the others leave is y
-abbrev instead : (Span → ℕ → ℕ → List ℕ) → (Span → Span → ℕ → List ℕ) → (Span → List ℕ) → (Span → ℕ → List ℕ) → List ℕ → Act → List ℕ
+abbrev instead : (Span → Sum → List ℕ) → (Span → Span → ℕ → List ℕ) → (Span → List ℕ) → (Span → ℕ → List ℕ) → List ℕ → Act → List ℕ
 instead rebuild couple xpwrite xdwriteread y (ToRead x) = y
 instead rebuild couple xpwrite xdwriteread y (Write x) = y
 instead rebuild couple xpwrite xdwriteread y (XpWrite x) = xpwrite x
 instead rebuild couple xpwrite xdwriteread y (XdRead x i) = y
 instead rebuild couple xpwrite xdwriteread y (Couple x z mirror) = couple x z mirror
 instead rebuild couple xpwrite xdwriteread y (Retain x i mirror ndisc) = y
-instead rebuild couple xpwrite xdwriteread y (Rebuild x j) = rebuild x n int
+instead rebuild couple xpwrite xdwriteread y (Rebuild x j) = rebuild x j
 instead rebuild couple xpwrite xdwriteread y (Regenerate x j i) = y
 instead rebuild couple xpwrite xdwriteread y (XdWriteRead x disable) = xdwriteread x disable
 
 -- one of these alone
-abbrev onRebuild : (Span → ℕ → ℕ → List ℕ) → List ℕ → Act → List ℕ
+abbrev onRebuild : (Span → Sum → List ℕ) → List ℕ → Act → List ℕ
 onRebuild f y = instead f (λ x z mirror. y) (λ x. y) (λ x disable. y) y
 
 abbrev onCouple : (Span → Span → ℕ → List ℕ) → List ℕ → Act → List ℕ
-onCouple f y = instead (λ x n int. y) f (λ x. y) (λ x disable. y) y
+onCouple f y = instead (λ x j. y) f (λ x. y) (λ x disable. y) y
 
 abbrev onXpWrite : (Span → List ℕ) → List ℕ → Act → List ℕ
-onXpWrite f y = instead (λ x n int. y) (λ x z mirror. y) f (λ x disable. y) y
+onXpWrite f y = instead (λ x j. y) (λ x z mirror. y) f (λ x disable. y) y
 
 abbrev onXdWriteRead : (Span → ℕ → List ℕ) → List ℕ → Act → List ℕ
-onXdWriteRead f y = instead (λ x n int. y) (λ x z mirror. y) (λ x. y) f y
+onXdWriteRead f y = instead (λ x j. y) (λ x z mirror. y) (λ x. y) f y
 
 -- a list but for its element i
 abbrev pub sansAt : ℕ → List (List ℕ) → List (List ℕ)
@@ -158,7 +160,7 @@ sansAt (suc i) (x ∷ xs) = x ∷ sansAt i xs
 
 -- a REBUILD that leaves source i out
 abbrev pub missing : ℕ → Acting
-missing i s g sent act = onRebuild (λ x n int. put s (spanAt g x) (xorAll (sansAt i (sourcesFrom s g sent (x .count) 0 n)))) (leaves s g sent act) act
+missing i s g sent act = onRebuild (λ x j. put s (spanAt g x) (xorAll (sansAt i (sourcesFrom s g (j .came) sent (x .count) 0 (getD sent 0 0))))) (leaves s g sent act) act
 
 -- of two, the first or the last
 pub missing-not : (i : ℕ) → i < 2 → Restores (callBy (actingBy (missing i))) (actingBy (missing i)) → ⊥
@@ -176,7 +178,7 @@ missing-not (suc (suc i)) l h = absurd (omega arith)
 -- "Counting the target among REBUILD's operands."
 abbrev pub counting : Acting
 counting s g sent act =
-    onRebuild (λ x n int. put s (spanAt g x) (blocksOf s g x ⊻ gathered s g sent (x .count) j)) (leaves s g sent act) act
+    onRebuild (λ x j. put s (spanAt g x) (blocksOf s g x ⊻ gathered s g sent (x .count) j)) (leaves s g sent act) act
 
 pub counting-not : Restores (callBy (actingBy counting)) (actingBy counting) → ⊥
 unfolding cdbOf decideOf stepOutcome validImage framedOk rangesOk offsetsOk tableOk statesOk newAddress addressesOk slotsOk eachOk ranksOk slotOk slotOf slotAt place every allBelow countBelow leastBelow driveOf part put num toBe _⊻_ xorAll sourcesFrom gathered opOf listedOf ownOf resolvedOf listBytes sourceOf ownEntry driveBad entryBad firstBad
@@ -192,7 +194,7 @@ forgetting s g sent act = onCouple (λ x y mirror. put s (spanAt g y) (passedOn 
 pub forgetting-not : SumsDiffer (callBy (actingBy forgetting)) → ⊥
 unfolding decideOf stepOutcome validImage framedOk rangesOk offsetsOk tableOk statesOk newAddress addressesOk slotsOk eachOk ranksOk slotOk slotOf slotAt place every allBelow countBelow leastBelow driveOf part put num toBe _⊻_ xorAll opOf sixteenOf tenOf rowSum summedTo counts owed keeping share
 forgetting-not h =
-    let x = h bench benchShape bench-start (command 1 (xdwrite 0x00) fresh room ∷ []) ((refl, refl), tt) 0 (lit≤ tt) in
+    let x = h bench benchShape bench-start (command (to 1) (xdwrite 0x00) fresh room ∷ []) ((refl, refl), tt) 0 (lit≤ tt) in
     let z : _≡_ {A = ℕ} 0xF5 0 = ap (λ (l : List ℕ). getD l 0 0) x in
     omega arith
 
@@ -203,7 +205,7 @@ storing s g sent act = onXpWrite (λ x. put s (spanAt g x) sent) (leaves s g sen
 pub storing-not : SumsDiffer (callBy (actingBy storing)) → ⊥
 unfolding decideOf stepOutcome validImage framedOk rangesOk offsetsOk tableOk statesOk newAddress addressesOk slotsOk eachOk ranksOk slotOk slotOf slotAt place every allBelow sameList countBelow leastBelow driveOf emptySlot newestOf bestOf better released lowered lowerOne bytesOf part put num toBe _⊻_ xorAll opOf sixteenOf tenOf rowSum summedTo counts owed keeping share
 storing-not h =
-    let calls = command 1 (xdwrite 0x06) fresh room ∷ command 1 (ten 0xC2 0 1) [] room ∷ command 3 (ten 0xC1 0 1) result room ∷ [] in
+    let calls = command (to 1) (xdwrite 0x06) fresh room ∷ command (to 1) (ten 0xC2 0 1) [] room ∷ command (to 3) (ten 0xC1 0 1) result room ∷ [] in
     let x = h bench benchShape bench-start calls ((λ e. refl), (tt, (carried, tt))) 0 (lit≤ tt) in
     let z : _≡_ {A = ℕ} 0x0B 0 = ap (λ (l : List ℕ). getD l 0 0) x in
     omega arith
@@ -216,11 +218,11 @@ heedless d s g sent act = onXdWriteRead (λ x disable. leaves s g sent (XdWriteR
 pub heedless-not : (d : ℕ) → d < 2 → SumsDiffer (callBy (actingBy (heedless d))) → ⊥
 unfolding decideOf stepOutcome validImage framedOk rangesOk offsetsOk tableOk statesOk newAddress addressesOk slotsOk eachOk ranksOk slotOk slotOf slotAt place every allBelow countBelow leastBelow driveOf part put num toBe _⊻_ xorAll opOf tenOf rowSum summedTo counts owed keeping share
 heedless-not zero l h =
-    let x = h bench benchShape bench-start (command 1 (tenWith 0x53 0x04 0 1) fresh room ∷ []) (tt, tt) 0 (lit≤ tt) in
+    let x = h bench benchShape bench-start (command (to 1) (tenWith 0x53 0x04 0 1) fresh room ∷ []) (tt, tt) 0 (lit≤ tt) in
     let z : _≡_ {A = ℕ} 0xF5 0 = ap (λ (l : List ℕ). getD l 0 0) x in
     omega arith
 heedless-not (suc zero) l h =
-    let x = h bench benchShape bench-start (command 1 (ten 0x53 0 1) fresh room ∷ []) (tt, tt) 0 (lit≤ tt) in
+    let x = h bench benchShape bench-start (command (to 1) (ten 0x53 0 1) fresh room ∷ []) (tt, tt) 0 (lit≤ tt) in
     let z : _≡_ {A = ℕ} 0 0xF5 = ap (λ (l : List ℕ). getD l 0 0) x in
     omega arith
 heedless-not (suc (suc d)) l h = absurd (omega arith)

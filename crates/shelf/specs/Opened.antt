@@ -8,7 +8,8 @@ use Rattle.folds.specs.declared.Found.the-variants.{At}
 use Rattle.rules.specs.Rule.{rule, first, first-append}
 use Rattle.geometry.specs.declared.Geometry.{Geometry}
 use Rattle.geometry.specs.Header.{geometryOf}
-use Rattle.drives.specs.Table.{driveOf, marked}
+use Rattle.drives.specs.declared.Came.{Came}
+use Rattle.drives.specs.Table.{targetOf, marked}
 use Rattle.slots.specs.Change.{dropped}
 use Rattle.sense.specs.declared.Answer.{Answer}
 use Rattle.sense.specs.declared.Answer.the-variants.{Good, BadState}
@@ -20,7 +21,7 @@ use Rattle.decide.specs.Called.{calledOf, Addressed, addressed-found, called-re
 use Rattle.meaning.specs.Stepped.{Reset, Marked}
 
 -- calls 1 and 2
-module _ (m : List ℕ) (a : ℕ) (x : Answer) (e : calledOf m a ≡ Refused x) where
+module _ (m : List ℕ) (a : Came) (x : Answer) (e : calledOf m a ≡ Refused x) where
   pub reset-refused : Reset m a x m
   unfolding resetAnswer resetImage
   reset-refused =
@@ -40,8 +41,8 @@ module _ (m : List ℕ) (a : ℕ) (x : Answer) (e : calledOf m a ≡ Refused x) 
       }
 
 -- where they pass
-module _ (m : List ℕ) (a : ℕ) (g : Geometry) (i : ℕ) (t : Addressed m a g i) where
-  found : driveOf m (geometryOf m) a ≡ At i
+module _ (m : List ℕ) (a : Came) (g : Geometry) (i : ℕ) (t : Addressed m a g i) where
+  found : targetOf m (geometryOf m) a ≡ At i
   found = addressed-found m a g i t
 
   pub reset-done : (m′ : List ℕ) → m′ ≡ dropped m g i → Reset m a Good m′

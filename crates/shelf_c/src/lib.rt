@@ -1,9 +1,21 @@
 // What the recorder's C driver calls: numbers and byte slices, each slice a pointer and a length.
 // include/shelf.h says what a driver writer must know.
+use drives::Came;
+use geometry::Address;
 ghost use mathlib.Core.Path.{_≡_};
+ghost use Rattle.drives.specs.Table.{to};
 ghost use Rattle.sense.specs.Answers.{numberOf};
 ghost use Rattle.meaning.specs.Step.{resetAnswer, resetImage, markAnswer, markImage};
 ghost use Rattle.shelf_c.specs.Interface.{StepCall};
+
+// How a call came: what the driver's numbers say of it.
+fn came_from(target: u32) -> Came
+    ensures { λ r. ⌜ r ≡ to target ⌝ }
+{
+    Came {
+        target: Address(target as usize),
+    }
+}
 
 // One command. A sense room below 37 bytes is call 5 before all other checks, and moves nothing.
 #[no_mangle]
@@ -16,12 +28,12 @@ pub extern "C" fn shelf_step(
     sense: &mut [u8],
     count: &mut u32,
 ) -> u32
-    ensures { λ r. ⌜ StepCall (now (image .entry)) target (now (cdb .entry)) (now (sent .entry)) (now (room .entry)) (now (sense .entry)) (now (count .entry)) r (now (image .exit)) (now (room .exit)) (now (sense .exit)) (now (count .exit)) ⌝ }
+    ensures { λ r. ⌜ StepCall (now (image .entry)) (to target) (now (cdb .entry)) (now (sent .entry)) (now (room .entry)) (now (sense .entry)) (now (count .entry)) r (now (image .exit)) (now (room .exit)) (now (sense .exit)) (now (count .exit)) ⌝ }
 {
     if sense.len() < 37 {
         return 261;
     }
-    let outcome = shelf::step(image, target, cdb, sent, room);
+    let outcome = shelf::step(image, came_from(target), cdb, sent, room);
     let told = outcome.sense;
     let bytes = told.bytes;
     octets::put_at(sense, 0, &bytes);
@@ -33,15 +45,15 @@ pub extern "C" fn shelf_step(
 // Hard reset of a drive.
 #[no_mangle]
 pub extern "C" fn shelf_reset(image: &mut [u8], target: u32) -> u32
-    ensures { λ r. ⌜ (r ≡ numberOf (resetAnswer (now (image .entry)) target)) × (now (image .exit) ≡ resetImage (now (image .entry)) target) ⌝ }
+    ensures { λ r. ⌜ (r ≡ numberOf (resetAnswer (now (image .entry)) (to target))) × (now (image .exit) ≡ resetImage (now (image .entry)) (to target)) ⌝ }
 {
-    sense::number(shelf::reset(image, target))
+    sense::number(shelf::reset(image, came_from(target)))
 }
 
 // Marks a drive present (0) or failed (1).
 #[no_mangle]
 pub extern "C" fn shelf_mark(image: &mut [u8], target: u32, state: u32) -> u32
-    ensures { λ r. ⌜ (r ≡ numberOf (markAnswer (now (image .entry)) target state)) × (now (image .exit) ≡ markImage (now (image .entry)) target state) ⌝ }
+    ensures { λ r. ⌜ (r ≡ numberOf (markAnswer (now (image .entry)) (to target) state)) × (now (image .exit) ≡ markImage (now (image .entry)) (to target) state) ⌝ }
 {
-    sense::number(shelf::mark(image, target, state))
+    sense::number(shelf::mark(image, came_from(target), state))
 }

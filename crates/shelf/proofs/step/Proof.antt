@@ -1,6 +1,5 @@
 -- `shelf::step` meets its contract.
 use mathlib.Core.Path.{sym, _∙_}
-use native.Mathlib.Omega.{arith}
 use borrow.Author.Needs.{needs}
 use Rattle.geometry.specs.Frame.{framed-long}
 use Rattle.grants.specs.Granted.{granted}
@@ -20,8 +19,7 @@ carry-out-requires c κs =
     let read = c .before .before .read in
     let decide = c .before .before .before .before .before .before .before .decide in
     let act = c .before .before .before .before .before .act in
-    let shared-slice-known2 = c .before .before .before .before .before .before .before .before .before .before .shared-slice-known2 in
-    licensed _ _ _ _ _ _ _ _ (read .ensures) (sym (decide .ensures) ∙ act .given .1) (λ i. omega (arith, shared-slice-known2 .given i))
+    licensed _ _ _ _ _ _ _ _ (read .ensures) (sym (decide .ensures) ∙ act .given .1)
 
 returns : tie.Need-returns
 returns c =
