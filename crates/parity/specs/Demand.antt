@@ -33,7 +33,7 @@ use Rattle.demands_one_two.specs.Effects.{resultIn}
 use Rattle.demands_one_two.specs.Step.{step-shelf}
 use Rattle.demands_one_two.specs.Calls.{reset-shelf, reset-front, mark-shelf, mark-address}
 use Rattle.demands_one_two.specs.Retained.{newest-handed}
-use Rattle.callers.specs.Next.{step-front}
+use Rattle.demands_one_two.specs.Step.{step-front}
 use Rattle.parity.specs.Ledger.{Read, Line, line, noted, notedBy, notedCall, FairCall, ledgerTo, FairTo, ledger-after, fair-front, ledger, Fair}
 use Rattle.parity.specs.Owed.{owed, owed-none, owed-nothing, length-owed}
 use Rattle.parity.specs.Waiting.{waiting, waiting-none}

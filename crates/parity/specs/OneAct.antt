@@ -114,10 +114,10 @@ module _ (m : List ℕ) (g : Geometry) (h : Shelf m g) (s : List ℕ) (es : List
 -- ---- every act: what it makes unread, and what it writes
 
 module _ (m : List ℕ) (g : Geometry) (h : Shelf m g) (s : List ℕ) (es : List Line) where
-  Tally : Effect → List Line → Type 0
+  abbrev Tally : Effect → List Line → Type 0
   Tally e fs = waiting es ≡ results m g → waiting fs ≡ afterwards (e .change) (results m g)
 
-  Balance : Effect → List Line → Type 0
+  abbrev Balance : Effect → List Line → Type 0
   Balance e fs = (r : ℕ) → r < g .b → rowSum (written m g (e .writes)) g r ⊻ owed g r fs ≡ rowSum m g r ⊻ owed g r es
 
   -- one more result, unread

@@ -1,10 +1,11 @@
 -- Steps that demand 3 shuts out.
-use Prim.Native.Nat.{ℕ, zero, suc, _<_}
+use Prim.Native.Nat.{ℕ, zero, suc, _*_, _<_}
 use native.Mathlib.Omega.{arith}
 use mathlib.Core.Path.{_≡_, refl, sym, ap, _∙_}
-use mathlib.Core.List.{List, [], _∷_, List·Memᴰ·not-nil}
-use lib.Dec.{lit≤}
-use lib.ListN.{getD}
+use mathlib.Core.Bool.{cond}
+use mathlib.Core.List.{List, [], _∷_, map, List·Memᴰ·not-nil}
+use lib.Dec.{lit≤, eqb}
+use lib.ListN.{getD, set, take}
 use Rattle.octets.specs.Part.{part}
 use Rattle.octets.specs.Put.{put}
 use Rattle.octets.specs.Octets.{Octets, small-octets}
@@ -19,6 +20,7 @@ use Rattle.folds.specs.Least.{leastBelow}
 use Rattle.geometry.specs.declared.Geometry.{Geometry}
 use Rattle.geometry.specs.Header.{geometryOf, rangesOk, offsetsOk, framedOk, slotAt, place}
 use Rattle.drives.specs.declared.Came.{Came}
+use Rattle.geometry.specs.Stores.{stored}
 use Rattle.drives.specs.Table.{statesOk, newAddress, addressesOk, tableOk, driveOf, to}
 use Rattle.slots.specs.Record.{slotOf, bytesOf}
 use Rattle.slots.specs.Slots.{slotOk, eachOk, ranksOk, slotsOk}
@@ -36,20 +38,16 @@ use Rattle.sense.specs.declared.Answer.{Answer}
 use Rattle.sense.specs.declared.Answer.the-variants.{Good}
 use Rattle.command.specs.Command.{opOf, sixteenOf, tenOf, listedOf, ownOf, resolvedOf, listBytes, sourceOf}
 use Rattle.command.specs.Lossless.{cdbOf}
-use Rattle.meaning.specs.declared.Span.{Span}
-use Rattle.meaning.specs.declared.Sum.{Sum}
-use Rattle.meaning.specs.declared.Act.{Act}
-use Rattle.meaning.specs.declared.Act.the-variants.{Read as ToRead, Write, XpWrite, XdRead, Couple, Retain, Rebuild, Regenerate, XdWriteRead}
 use Rattle.meaning.specs.declared.Decision.{Decision}
 use Rattle.meaning.specs.declared.Decision.the-variants.{Stop, Go}
-use Rattle.meaning.specs.Acts.{spanAt, blocksOf, passedOn, sourcesFrom, gathered, leaves}
+use Rattle.meaning.specs.Acts.{blocksOf, Over, over, Effect, effect, storesIn, sourcesFrom, gathered, effectOf}
 use Rattle.meaning.specs.Sources.{ownEntry, driveBad, entryBad, firstBad}
 use Rattle.meaning.specs.Checks.{decideOf}
-use Rattle.meaning.specs.Step.{decided, stepOutcome}
+use Rattle.meaning.specs.Step.{decided, stepImage, stepOutcome}
 use Rattle.meaning.specs.Calls.{Call, command}
 use Rattle.meaning.specs.Examples.Cases.{xdwrite, tenWith, ten, room}
 use Rattle.parity.specs.Owed.{owed}
-use Rattle.parity.specs.AnyStep.{AnyStep, done, callBy, Start, SumsDiffer, AllPresent, Whole, Restores}
+use Rattle.parity.specs.AnyStep.{AnyStep, done, theStep, callBy, Start, SumsDiffer, AllPresent, Whole, Restores}
 use Rattle.parity.specs.Example.{bench-start, bench-zero, present, carried, junk, both-rows}
 
 -- ---- two images to try a step on
@@ -117,40 +115,22 @@ idling-not answer h =
 
 -- ---- steps that decide rightly and act wrongly
 
-abbrev pub Acting : Type 0
-Acting = List ℕ → Geometry → List ℕ → Act → List ℕ
+-- another effect in place of an act's, on an image with data-out bytes
+abbrev pub Otherwise : Type 0
+Otherwise = List ℕ → Geometry → List ℕ → Effect → Effect
 
-abbrev leftBy : Acting → Decision → List ℕ → List ℕ → List ℕ
+abbrev leftBy : Otherwise → Decision → List ℕ → List ℕ → List ℕ
 leftBy f (Stop n w x) m s = m
-leftBy f (Go act x) m s = f m (geometryOf m) s act
+leftBy f (Go act x) m s = stored m (storesIn m (geometryOf m) (f m (geometryOf m) s (effectOf m (geometryOf m) s act)))
 
-abbrev pub actingBy : Acting → AnyStep
-actingBy f m a c s r = done (leftBy f (decided m a c s r) m s) (stepOutcome m a c s r .answer)
+-- of the commands with a code
+abbrev pub acting : ℕ → Otherwise → AnyStep
+acting code f m a c s r =
+    cond (eqb (getD c 0 0) code) (done (leftBy f (decided m a c s r) m s) (stepOutcome m a c s r .answer)) (theStep m a c s r)
 
--- another REBUILD, coupled write, XPWRITE and XDWRITEREAD; what the others leave is y
-abbrev instead : (Span → Sum → List ℕ) → (Span → Span → ℕ → List ℕ) → (Span → List ℕ) → (Span → ℕ → List ℕ) → List ℕ → Act → List ℕ
-instead rebuild couple xpwrite xdwriteread y (ToRead x) = y
-instead rebuild couple xpwrite xdwriteread y (Write x) = y
-instead rebuild couple xpwrite xdwriteread y (XpWrite x) = xpwrite x
-instead rebuild couple xpwrite xdwriteread y (XdRead x i) = y
-instead rebuild couple xpwrite xdwriteread y (Couple x z mirror) = couple x z mirror
-instead rebuild couple xpwrite xdwriteread y (Retain x i mirror ndisc) = y
-instead rebuild couple xpwrite xdwriteread y (Rebuild x j) = rebuild x j
-instead rebuild couple xpwrite xdwriteread y (Regenerate x j i) = y
-instead rebuild couple xpwrite xdwriteread y (XdWriteRead x disable) = xdwriteread x disable
-
--- one of these alone
-abbrev onRebuild : (Span → Sum → List ℕ) → List ℕ → Act → List ℕ
-onRebuild f y = instead f (λ x z mirror. y) (λ x. y) (λ x disable. y) y
-
-abbrev onCouple : (Span → Span → ℕ → List ℕ) → List ℕ → Act → List ℕ
-onCouple f y = instead (λ x j. y) f (λ x. y) (λ x disable. y) y
-
-abbrev onXpWrite : (Span → List ℕ) → List ℕ → Act → List ℕ
-onXpWrite f y = instead (λ x j. y) (λ x z mirror. y) f (λ x disable. y) y
-
-abbrev onXdWriteRead : (Span → ℕ → List ℕ) → List ℕ → Act → List ℕ
-onXdWriteRead f y = instead (λ x j. y) (λ x z mirror. y) (λ x. y) f y
+-- other bytes over the blocks that are written
+abbrev pub writing : (Over → List ℕ) → Effect → Effect
+writing f e = effect (e .hands) (map (λ w. over (w .blocks) (f w)) (e .writes)) (e .change)
 
 -- a list but for its element i
 abbrev pub sansAt : ℕ → List (List ℕ) → List (List ℕ)
@@ -159,51 +139,50 @@ sansAt zero (x ∷ xs) = xs
 sansAt (suc i) (x ∷ xs) = x ∷ sansAt i xs
 
 -- a REBUILD that leaves source i out
-abbrev pub missing : ℕ → Acting
-missing i s g sent act = onRebuild (λ x j. put s (spanAt g x) (xorAll (sansAt i (sourcesFrom s g (j .came) sent (x .count) 0 (getD sent 0 0))))) (leaves s g sent act) act
+abbrev pub missing : ℕ → AnyStep
+missing i m a = acting 0xC3 (λ m g s. writing (λ w. xorAll (sansAt i (sourcesFrom m g a s (w .blocks .count) 0 (getD s 0 0))))) m a
 
 -- of two, the first or the last
-pub missing-not : (i : ℕ) → i < 2 → Restores (callBy (actingBy (missing i))) (actingBy (missing i)) → ⊥
+pub missing-not : (i : ℕ) → i < 2 → Restores (callBy (missing i)) (missing i) → ⊥
 unfolding cdbOf decideOf stepOutcome validImage framedOk rangesOk offsetsOk tableOk statesOk newAddress addressesOk slotsOk eachOk ranksOk slotOk slotOf slotAt place every allBelow countBelow leastBelow driveOf part put num toBe _⊻_ xorAll sourcesFrom gathered opOf listedOf ownOf resolvedOf listBytes sourceOf ownEntry driveBad entryBad firstBad
 missing-not zero l h =
-    let x = h bench benchShape [] 1 0 2 junk (0 ∷ 2 ∷ []) 2 0xFFFFFFFF (on-bench (callBy (actingBy (missing 0)))) both-rows room .back in
+    let x = h bench benchShape [] 1 0 2 junk (0 ∷ 2 ∷ []) 2 0xFFFFFFFF (on-bench (callBy (missing 0))) both-rows room .back in
     let z : _≡_ {A = ℕ} 11 1 = ap (λ (b : List ℕ). getD b 76 0) x in
     omega arith
 missing-not (suc zero) l h =
-    let x = h bench benchShape [] 1 0 2 junk (0 ∷ 2 ∷ []) 2 0xFFFFFFFF (on-bench (callBy (actingBy (missing 1)))) both-rows room .back in
+    let x = h bench benchShape [] 1 0 2 junk (0 ∷ 2 ∷ []) 2 0xFFFFFFFF (on-bench (callBy (missing 1))) both-rows room .back in
     let z : _≡_ {A = ℕ} 10 1 = ap (λ (b : List ℕ). getD b 76 0) x in
     omega arith
 missing-not (suc (suc i)) l h = absurd (omega arith)
 
 -- "Counting the target among REBUILD's operands."
-abbrev pub counting : Acting
-counting s g sent act =
-    onRebuild (λ x j. put s (spanAt g x) (blocksOf s g x ⊻ gathered s g sent (x .count) j)) (leaves s g sent act) act
+abbrev pub counting : AnyStep
+counting = acting 0xC3 (λ m g s. writing (λ w. blocksOf m g (w .blocks) ⊻ w .bytes))
 
-pub counting-not : Restores (callBy (actingBy counting)) (actingBy counting) → ⊥
+pub counting-not : Restores (callBy counting) counting → ⊥
 unfolding cdbOf decideOf stepOutcome validImage framedOk rangesOk offsetsOk tableOk statesOk newAddress addressesOk slotsOk eachOk ranksOk slotOk slotOf slotAt place every allBelow countBelow leastBelow driveOf part put num toBe _⊻_ xorAll sourcesFrom gathered opOf listedOf ownOf resolvedOf listBytes sourceOf ownEntry driveBad entryBad firstBad
 counting-not h =
-    let x = h bench benchShape [] 1 0 2 junk (0 ∷ 2 ∷ []) 2 0xFFFFFFFF (on-bench (callBy (actingBy counting))) both-rows room .back in
+    let x = h bench benchShape [] 1 0 2 junk (0 ∷ 2 ∷ []) 2 0xFFFFFFFF (on-bench (callBy counting)) both-rows room .back in
     let z : _≡_ {A = ℕ} 254 1 = ap (λ (l : List ℕ). getD l 76 0) x in
     omega arith
 
 -- a coupled write that forgets the data drive
-abbrev pub forgetting : Acting
-forgetting s g sent act = onCouple (λ x y mirror. put s (spanAt g y) (passedOn s g x y mirror sent)) (leaves s g sent act) act
+abbrev pub forgetting : AnyStep
+forgetting = acting 0xC0 (λ m g s e. effect (e .hands) (take 1 (e .writes)) (e .change))
 
-pub forgetting-not : SumsDiffer (callBy (actingBy forgetting)) → ⊥
-unfolding decideOf stepOutcome validImage framedOk rangesOk offsetsOk tableOk statesOk newAddress addressesOk slotsOk eachOk ranksOk slotOk slotOf slotAt place every allBelow countBelow leastBelow driveOf part put num toBe _⊻_ xorAll opOf sixteenOf tenOf rowSum summedTo counts owed keeping share
+pub forgetting-not : SumsDiffer (callBy forgetting) → ⊥
+unfolding decideOf stepImage stepOutcome validImage framedOk rangesOk offsetsOk tableOk statesOk newAddress addressesOk slotsOk eachOk ranksOk slotOk slotOf slotAt place every allBelow countBelow leastBelow driveOf part put num toBe _⊻_ xorAll opOf sixteenOf tenOf rowSum summedTo counts owed keeping share
 forgetting-not h =
     let x = h bench benchShape bench-start (command (to 1) (xdwrite 0x00) fresh room ∷ []) ((refl, refl), tt) 0 (lit≤ tt) in
     let z : _≡_ {A = ℕ} 0xF5 0 = ap (λ (l : List ℕ). getD l 0 0) x in
     omega arith
 
 -- an XPWRITE that stores its data
-abbrev pub storing : Acting
-storing s g sent act = onXpWrite (λ x. put s (spanAt g x) sent) (leaves s g sent act) act
+abbrev pub storing : AnyStep
+storing = acting 0xC1 (λ m g s. writing (λ w. s))
 
-pub storing-not : SumsDiffer (callBy (actingBy storing)) → ⊥
-unfolding decideOf stepOutcome validImage framedOk rangesOk offsetsOk tableOk statesOk newAddress addressesOk slotsOk eachOk ranksOk slotOk slotOf slotAt place every allBelow sameList countBelow leastBelow driveOf emptySlot newestOf bestOf better released lowered lowerOne bytesOf part put num toBe _⊻_ xorAll opOf sixteenOf tenOf rowSum summedTo counts owed keeping share
+pub storing-not : SumsDiffer (callBy storing) → ⊥
+unfolding decideOf stepImage stepOutcome validImage framedOk rangesOk offsetsOk tableOk statesOk newAddress addressesOk slotsOk eachOk ranksOk slotOk slotOf slotAt place every allBelow sameList countBelow leastBelow driveOf emptySlot newestOf bestOf better released lowered lowerOne bytesOf part put num toBe _⊻_ xorAll opOf sixteenOf tenOf rowSum summedTo counts owed keeping share
 storing-not h =
     let calls = command (to 1) (xdwrite 0x06) fresh room ∷ command (to 1) (ten 0xC2 0 1) [] room ∷ command (to 3) (ten 0xC1 0 1) result room ∷ [] in
     let x = h bench benchShape bench-start calls ((λ e. refl), (tt, (carried, tt))) 0 (lit≤ tt) in
@@ -211,12 +190,12 @@ storing-not h =
     omega arith
 
 -- an XDWRITEREAD that takes DISABLE WRITE for d, whatever its CDB says: with 0 it always writes, with 1 it never does
-abbrev pub heedless : ℕ → Acting
-heedless d s g sent act = onXdWriteRead (λ x disable. leaves s g sent (XdWriteRead x d)) (leaves s g sent act) act
+abbrev pub heedless : ℕ → AnyStep
+heedless d m a c s r = theStep m a (cond (eqb (getD c 0 0) 0x53) (set c 1 (4 * d)) c) s r
 
 -- a sum that changes with nothing owed; one that stays with a result owed
-pub heedless-not : (d : ℕ) → d < 2 → SumsDiffer (callBy (actingBy (heedless d))) → ⊥
-unfolding decideOf stepOutcome validImage framedOk rangesOk offsetsOk tableOk statesOk newAddress addressesOk slotsOk eachOk ranksOk slotOk slotOf slotAt place every allBelow countBelow leastBelow driveOf part put num toBe _⊻_ xorAll opOf tenOf rowSum summedTo counts owed keeping share
+pub heedless-not : (d : ℕ) → d < 2 → SumsDiffer (callBy (heedless d)) → ⊥
+unfolding decideOf stepImage stepOutcome validImage framedOk rangesOk offsetsOk tableOk statesOk newAddress addressesOk slotsOk eachOk ranksOk slotOk slotOf slotAt place every allBelow countBelow leastBelow driveOf part put num toBe _⊻_ xorAll opOf tenOf rowSum summedTo counts owed keeping share
 heedless-not zero l h =
     let x = h bench benchShape bench-start (command (to 1) (tenWith 0x53 0x04 0 1) fresh room ∷ []) (tt, tt) 0 (lit≤ tt) in
     let z : _≡_ {A = ℕ} 0xF5 0 = ap (λ (l : List ℕ). getD l 0 0) x in
