@@ -83,17 +83,23 @@ module _ (g : Geometry) (p : Placed g) where
       let b = spanAt g (w .blocks) in
       ap (λ (t : List ℕ). written t g ws) (put-comm m at ys b (w .bytes) (omega (arith, span-after-media g (w .blocks)))) ∙ before-written at ys l (put m b (w .bytes)) ws
 
-  -- a result's data, the blocks, and then its record: a result that comes after the blocks are written
-  written-result : (m : List ℕ) (ws : List Over) (i kind : ℕ) (x : Span) (bytes : List ℕ) → Possible m g ws (Comes i kind x bytes)
-      → stored (put m (dataAt g i) bytes) (map (blockStore g) ws ++ recordStores m g (Comes i kind x bytes)) ≡ withResult (written m g ws) g (resultIn kind x bytes)
-  written-result m ws i kind x bytes (e, sound) =
-      let t = written m g ws in
-      let k = written-slots m ws in
+  -- a result's data, the blocks, and then its record, as if the blocks came first
+  pub blocks-first : (m : List ℕ) (ws : List Over) (i kind : ℕ) (x : Span) (bytes : List ℕ) → Possible m g ws (Comes i kind x bytes)
+      → stored m (dataStores g (Comes i kind x bytes) ++ map (blockStore g) ws ++ recordStores m g (Comes i kind x bytes))
+      ≡ stored (put (written m g ws) (dataAt g i) bytes) (recordStores m g (Comes i kind x bytes))
+  blocks-first m ws i kind x bytes (e, sound) =
       let room : dataAt g i + length bytes ≤ g .media =
       omega (arith, slot-before-media g i p (empty-inside m g i e .0), data-ends g i (x .count) (sound .len-high), sound .exact) in
       stored-append (put m (dataAt g i) bytes) (map (blockStore g) ws) (recordStores m g (Comes i kind x bytes))
       ∙ ap (λ (u : List ℕ). stored u (recordStores m g (Comes i kind x bytes))) (before-written (dataAt g i) bytes room m ws)
-      ∙ retained-at t g kind (x .drive) (x .block .0) (x .count) bytes i (slotAt g i) (usedCount m g + 1) _ _
+
+  -- is a result that comes after the blocks are written
+  written-result : (m : List ℕ) (ws : List Over) (i kind : ℕ) (x : Span) (bytes : List ℕ) → Possible m g ws (Comes i kind x bytes)
+      → stored (put (written m g ws) (dataAt g i) bytes) (recordStores m g (Comes i kind x bytes)) ≡ withResult (written m g ws) g (resultIn kind x bytes)
+  written-result m ws i kind x bytes (e, sound) =
+      let t = written m g ws in
+      let k = written-slots m ws in
+      retained-at t g kind (x .drive) (x .block .0) (x .count) bytes i (slotAt g i) (usedCount m g + 1) _ _
       (kept-empty m t g p k ∙ e) refl (ap (λ (n : ℕ). n + 1) (sym (kept-count m t g p k))) refl refl
 
   pub in-form : (m : List ℕ) (room : ℕ) (e : Effect) → Fine m g room e → stored m (storesIn m g e) ≡ changed (written m g (e .writes)) g (e .change)
@@ -105,5 +111,5 @@ module _ (g : Geometry) (p : Placed g) where
 
       pick : (c : Change) → Possible m g ws c → stored m (dataStores g c ++ map (blockStore g) ws ++ recordStores m g c) ≡ changed (written m g ws) g c
       pick Stays h = ap (stored m) (append-nil (map (blockStore g) ws))
-      pick (Comes i kind x bytes) h = written-result m ws i kind x bytes h
+      pick (Comes i kind x bytes) h = blocks-first m ws i kind x bytes h ∙ written-result m ws i kind x bytes h
       pick (Goes i x) h = subst (λ (vs : List Over). stored m (map (blockStore g) vs ++ goes g i m) ≡ released (written m g vs) g i) (sym (h .1)) refl

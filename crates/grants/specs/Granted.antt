@@ -15,10 +15,11 @@ use Rattle.drives.specs.Lookup.{drive-inside}
 use Rattle.image.specs.Shelf.{Shelf, shelf}
 use Rattle.sense.specs.declared.Answer.{Answer}
 use Rattle.sense.specs.declared.Answer.the-variants.{Good}
+use Rattle.command.specs.declared.Op.{Op}
 use Rattle.command.specs.Command.{opOf, commandOf}
 use Rattle.meaning.specs.declared.Act.{Act}
 use Rattle.meaning.specs.declared.Decision.the-variants.{Stop, Go}
-use Rattle.meaning.specs.Checks.{commandChecks, checks, carriedOut, decideOf}
+use Rattle.meaning.specs.Checks.{checks, carriedOut, decideFor, decideOf}
 use Rattle.meaning.specs.Allowed.{Allowed}
 use Rattle.grants.specs.Passed.{passed-by, found}
 use Rattle.grants.specs.Each.{worksOn, no-stop, of-each}
@@ -30,12 +31,10 @@ pub record Granted (m : List ℕ) (a : Came) (s : List ℕ) (r : ℕ) (x : Act) 
   pub target : targetOf m (geometryOf m) a ≡ At (worksOn x)
   pub allowed : Allowed m (geometryOf m) s r x
 
--- the licence of the code that acts
-pub granted : (m : List ℕ) (a : Came) (c s : List ℕ) (r : ℕ) (x : Act) (y : Answer) → decideOf m a c s r ≡ Go x y → Granted m a s r x y
-unfolding decideOf
-granted m a c s r x y e =
+-- of an operation o
+pub granted-by : (o : Op) (m : List ℕ) (a : Came) (c s : List ℕ) (r : ℕ) (x : Act) (y : Answer) → decideFor o m a c s r ≡ Go x y → Granted m a s r x y
+granted-by o m a c s r x y e =
     let g = geometryOf m in
-    let o = opOf (getD c 0 0) in
     let w = passed Stop (checks o m a c s r) (carriedOut o m a c s) (Go x y) (λ n w z. no-stop n w z x y) e in
     let p = w .0 in
     let v = shelf m (not-false _ (p .0)) in
@@ -45,6 +44,11 @@ granted m a c s r x y e =
     let all = passed-by o m g t k s r (p .1 .1 .1 .1 .1 .1) in
     let h = of-each m g t s r v (drive-inside m g (a .target .0) t f .0) (p .1 .1 .1 .1 .1 .0) x y o k all (w .1) in
     record { good = h .good; valid = v; target = f ∙ ap At (sym (h .drive)); allowed = h .allowed }
+
+-- the licence of the code that acts
+pub granted : (m : List ℕ) (a : Came) (c s : List ℕ) (r : ℕ) (x : Act) (y : Answer) → decideOf m a c s r ≡ Go x y → Granted m a s r x y
+unfolding decideOf
+granted m a c s r x y e = granted-by (opOf (getD c 0 0)) m a c s r x y e
 
 -- by the geometry that the image is known to have
 pub allowed-at : (m : List ℕ) (g : Geometry) → Shelf m g → (a : Came) (c s : List ℕ) (r : ℕ) (x : Act) (y : Answer) → decideOf m a c s r ≡ Go x y → Allowed m g s r x
