@@ -8,7 +8,7 @@ use Rattle.octets.specs.Octets.{Octets}
 use Rattle.folds.specs.declared.Found.the-variants.{At}
 use Rattle.geometry.specs.declared.Geometry.{Geometry}
 use Rattle.drives.specs.Table.{addressOf, driveOf, failed}
-use Rattle.drives.specs.Facts.{table-addresses, address-lt}
+use Rattle.drives.specs.Facts.{address-lt}
 use Rattle.drives.specs.Lookup.{drive-found, drive-inside}
 use Rattle.image.specs.Shelf.{Shelf, shelf-frame}
 use Rattle.sense.specs.declared.Answer.the-variants.{Good}
@@ -32,7 +32,7 @@ pub record Target (m : List ℕ) (g : Geometry) (a t : ℕ) : Type 0 where
 
 -- a drive by its own address
 pub own-address : (m : List ℕ) (g : Geometry) (t : ℕ) → Shelf m g → t < g .d → failed m g t ≡ false → Target m g (addressOf m g t) t
-own-address m g t h l e = record { shelf = h; found = drive-found m g (table-addresses m g (h .table-ok)) t l; present = e }
+own-address m g t h l e = record { shelf = h; found = drive-found m g (h .table-ok) t l; present = e }
 
 -- an address of an image of bytes fits the three bytes of XDWRITE's CDB
 pub address-fits : (m : List ℕ) (g : Geometry) → Shelf m g → Octets m → (a t : ℕ) → driveOf m g a ≡ At t → a < 16777216

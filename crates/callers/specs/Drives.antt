@@ -116,5 +116,5 @@ module _ (m : List ℕ) (g : Geometry) (a t : ℕ) (h : Names m g a t) where
           address-kept = λ d l. ap (λ (x : List ℕ). addressOf x g d) mark-is ∙ address-marked m g t state d;
           blocks-kept = λ d b n.
               ap (λ (x : List ℕ). blocksAt x g d b n) mark-is
-              ∙ part-marked m g t state p inside (place g d b) _ (omega (arith, place-after-media g d b, p .slots-is, p .media-is));
+              ∙ part-marked m g t state p inside (place g d b) _ (omega (arith, place-after-media g d b, p .slots-end));
         }

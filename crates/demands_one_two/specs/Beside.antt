@@ -48,7 +48,7 @@ Beside g (XdWriteRead x disable) a n = eqb disable 0 ≡ true → OffSpan g x a 
 -- no act writes before the slots
 module _ (g : Geometry) (p : Placed g) where
   before : (x : Span) → OffSpan g x 0 (g .slots)
-  before x = inl (omega (arith, span-after-media g x, p .slots-is, p .media-is))
+  before x = inl (omega (arith, span-after-media g x, p .slots-end))
 
   pub front-beside : (act : Act) → Beside g act 0 (g .slots)
   front-beside (Read x) = tt

@@ -13,11 +13,10 @@ use Rattle.folds.specs.declared.Found.{Found}
 use Rattle.rules.specs.Rule.{rule, first, first-append}
 use Rattle.folds.specs.Least.{index}
 use Rattle.geometry.specs.declared.Geometry.{Geometry}
-use Rattle.geometry.specs.Header.{geometryOf, rangesOk, offsetsOk, framedOk, slotAt, place}
-use Rattle.drives.specs.Table.{statesOk, newAddress, addressesOk, tableOk, driveOf, marked}
+use Rattle.geometry.specs.Header.{geometryOf, slotAt, place}
+use Rattle.drives.specs.Table.{driveOf, marked}
 use Rattle.slots.specs.Record.{slotOf}
 use Rattle.slots.specs.Record as slots
-use Rattle.slots.specs.Slots.{slotOk, eachOk, ranksOk, slotsOk}
 use Rattle.slots.specs.Find.{emptySlot, newestOf}
 use Rattle.image.specs.Valid.{validImage}
 use Rattle.sense.specs.declared.Answer.{Answer}
@@ -97,7 +96,7 @@ module _ (m : List ℕ) (a : ℕ) (c s r : List ℕ) where
   unknown = was.plan 0 [] (was.leaves m)
 
   plain : Same Read (was.read m h t c s (length r)) × Same Write (was.write m h t c s (length r)) × Same XpWrite (was.xpwrite m h t c s (length r)) × Same Unknown unknown
-  unfolding validImage framedOk rangesOk offsetsOk tableOk statesOk newAddress addressesOk slotsOk eachOk ranksOk slotOk slotOf slotAt place driveOf tenOf noSense plainSense toBe
+  unfolding validImage slotOf slotAt place driveOf tenOf noSense plainSense toBe
   plain = (
     by-lists Read (was.read m h t c s (length r)) (ahead 10 ++ was.read m h t c s (length r) .checks) refl refl,
     by-lists Write (was.write m h t c s (length r)) (ahead 10 ++ was.write m h t c s (length r) .checks) refl refl,
@@ -107,7 +106,7 @@ module _ (m : List ℕ) (a : ℕ) (c s r : List ℕ) where
 
   -- XDREAD: the same result answers, and goes
   xdread : Same XdRead (was.xdread m h t c s (length r))
-  unfolding validImage framedOk rangesOk offsetsOk tableOk statesOk newAddress addressesOk slotsOk eachOk ranksOk slotOk slotOf slotAt place driveOf tenOf noSense plainSense toBe
+  unfolding validImage slotOf slotAt place driveOf tenOf noSense plainSense toBe
   xdread =
       let f = newest-alike m h t (was.block c) in
       let p = was.xdreadFrom m h t c s (length r) in
@@ -126,7 +125,7 @@ module _ (m : List ℕ) (a : ℕ) (c s r : List ℕ) where
   retain-alike i b n bytes false = refl
 
   xdwrite : Same XdWrite (was.xdwrite m h t c s)
-  unfolding validImage framedOk rangesOk offsetsOk tableOk statesOk newAddress addressesOk slotsOk eachOk ranksOk slotOk slotOf slotAt place driveOf emptySlot slots.bytesOf sixteenOf noSense plainSense absentSense nestedSense toBe
+  unfolding validImage slotOf slotAt place driveOf emptySlot slots.bytesOf sixteenOf noSense plainSense absentSense nestedSense toBe
   xdwrite =
       by-lists XdWrite (was.xdwrite m h t c s) (ahead 16 ++ was.xdwrite m h t c s .checks) refl
       (ap (first refuse (ahead 16 ++ was.xdwrite m h t c s .checks)) (pick (eqb (was.secCtl c) 3)))
@@ -172,14 +171,14 @@ module _ (m : List ℕ) (a : ℕ) (c s r : List ℕ) where
       ∙ ap (first refuse (us ++ entries)) q
 
   rebuild : Same Rebuild (was.rebuild m h t c s)
-  unfolding validImage framedOk rangesOk offsetsOk tableOk statesOk newAddress addressesOk slotsOk eachOk ranksOk slotOk slotOf slotAt place driveOf listedOf ownOf resolvedOf listBytes sourceOf ownEntry noSense plainSense toBe
+  unfolding validImage slotOf slotAt place driveOf listedOf ownOf resolvedOf listBytes sourceOf ownEntry noSense plainSense toBe
   rebuild =
       by-entries (before Rebuild) (ahead 10 ++ was.listChecks m h t c s (not (eqb (was.int c) 0) && eqb (be 4 c 2) 0xFFFFFFFF)) (carriedOut Rebuild m a c s)
       (carry (was.rebuild m h t c s .done)) refl
       (ap (λ (x : List ℕ). carry (was.leaves (put m (old.blockAt h t (was.own s)) x))) (gathered-alike m h s n c))
 
   regenerate : Same Regenerate (was.regenerate m h t c s)
-  unfolding validImage framedOk rangesOk offsetsOk tableOk statesOk newAddress addressesOk slotsOk eachOk ranksOk slotOk slotOf slotAt place driveOf emptySlot slots.bytesOf listedOf ownOf resolvedOf listBytes sourceOf ownEntry noSense plainSense toBe
+  unfolding validImage slotOf slotAt place driveOf emptySlot slots.bytesOf listedOf ownOf resolvedOf listBytes sourceOf ownEntry noSense plainSense toBe
   regenerate =
       by-entries (before Regenerate) (ahead 10 ++ was.listChecks m h t c s (ltb (h .M) (be 4 c 2)) ++ was.check 9 (was.isNothing (then.emptySlot m h)) told.busy ∷ [])
       (carriedOut Regenerate m a c s) (carry (was.regenerate m h t c s .done)) refl
@@ -212,7 +211,7 @@ module _ (m : List ℕ) (a : ℕ) where
   called = map forget (calls m a) ≡ signed.calls m a
 
   calls-alike : called
-  unfolding validImage framedOk rangesOk offsetsOk tableOk statesOk newAddress addressesOk slotsOk eachOk ranksOk slotOk slotOf slotAt driveOf noSense
+  unfolding validImage slotOf slotAt driveOf noSense
   calls-alike = refl
 
   pub reset-as-signed : (bytesOf (resetAnswer m a) ≡ signed.resetAnswer m a) × (resetImage m a ≡ signed.resetImage m a)

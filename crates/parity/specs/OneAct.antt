@@ -135,7 +135,7 @@ module _ (m : List ℕ) (g : Geometry) (h : Shelf m g) (sent : List ℕ) (es : L
         let w = put m (spanAt g x) (cond (eqb ndisc 0) sent []) in
         sum-same w (leaves m g sent (Retain x i mirror ndisc)) g r
         (same-counts (leaves m g sent (Retain x i mirror ndisc)) w g
-        (acted room (Retain x i mirror ndisc) al ∙ sym (front-put m g (spanAt g x) _ (omega (arith, span-after-media g x, f .placed .slots-is, f .placed .media-is)))))
+        (acted room (Retain x i mirror ndisc) al ∙ sym (front-put m g (spanAt g x) _ (omega (arith, span-after-media g x, f .placed .slots-end)))))
         (λ d ld. retain-beside m g h sent (place g d r) (g .l) room x i mirror ndisc al (inr (place-after-media g d r)))
 
     xd-sum : (room : ℕ) (x : Span) (i mirror ndisc : ℕ) → Allowed m g sent room (Retain x i mirror ndisc) → (ndisc ≡ 0 → mirror ≡ 0)

@@ -18,9 +18,9 @@ use Rattle.folds.specs.Count.{countBelow}
 use Rattle.folds.specs.Least.{leastBelow}
 use Rattle.geometry.specs.declared.Geometry.{Geometry}
 use Rattle.geometry.specs.Header.{geometryOf, rangesOk, offsetsOk, framedOk, slotAt, place}
-use Rattle.drives.specs.Table.{statesOk, newAddress, addressesOk, tableOk, driveOf}
+use Rattle.drives.specs.Table.{tableOk, driveOf}
 use Rattle.slots.specs.Record.{slotOf, bytesOf}
-use Rattle.slots.specs.Slots.{slotOk, eachOk, ranksOk, slotsOk}
+use Rattle.slots.specs.Slots.{slotsOk}
 use Rattle.slots.specs.Find.{emptySlot, better, bestOf, newestOf}
 use Rattle.slots.specs.Change.{released, lowerOne, lowered}
 use Rattle.results.specs.Lists.{keeping}
@@ -73,7 +73,7 @@ on-bench : (after : Call → List ℕ → List ℕ) → Whole after bench benchS
 on-bench = at-once bench bench-start (small-octets bench refl) bench-zero (present bench refl refl refl)
 
 spare-start : Start spare benchShape
-unfolding validImage framedOk rangesOk offsetsOk tableOk statesOk newAddress addressesOk slotsOk eachOk ranksOk slotOk slotOf slotAt every allBelow countBelow part num results agesTo slotRanked leastBelow
+unfolding framedOk rangesOk offsetsOk tableOk slotsOk slotOf slotAt every allBelow countBelow part num results agesTo slotRanked leastBelow
 spare-start = record { valid = record { header = refl; framed-ok = refl; table-ok = refl; slots-ok = refl }; nothing-retained = refl }
 
 spare-zero : ZeroSums spare benchShape 0 2
@@ -162,7 +162,7 @@ missing i s g sent act = onRebuild (λ x n int. put s (spanAt g x) (xorAll (sans
 
 -- of two, the first or the last
 pub missing-not : (i : ℕ) → i < 2 → Restores (callBy (actingBy (missing i))) (actingBy (missing i)) → ⊥
-unfolding cdbOf decideOf stepOutcome validImage framedOk rangesOk offsetsOk tableOk statesOk newAddress addressesOk slotsOk eachOk ranksOk slotOk slotOf slotAt place every allBelow countBelow leastBelow driveOf part put num toBe _⊻_ xorAll sourcesFrom gathered opOf listedOf ownOf resolvedOf listBytes sourceOf ownEntry driveBad entryBad firstBad
+unfolding cdbOf decideOf stepOutcome validImage slotOf slotAt place every allBelow countBelow leastBelow driveOf part put num toBe _⊻_ xorAll sourcesFrom gathered opOf listedOf ownOf resolvedOf listBytes sourceOf ownEntry driveBad entryBad firstBad
 missing-not zero l h =
     let x = h bench benchShape [] 1 0 2 junk (0 ∷ 2 ∷ []) 2 0xFFFFFFFF (on-bench (callBy (actingBy (missing 0)))) both-rows room .back in
     let z : _≡_ {A = ℕ} 11 1 = ap (λ (b : List ℕ). getD b 76 0) x in
@@ -179,7 +179,7 @@ counting s g sent act =
     onRebuild (λ x n int. put s (spanAt g x) (blocksOf s g x ⊻ gathered s g sent (x .count) n int)) (leaves s g sent act) act
 
 pub counting-not : Restores (callBy (actingBy counting)) (actingBy counting) → ⊥
-unfolding cdbOf decideOf stepOutcome validImage framedOk rangesOk offsetsOk tableOk statesOk newAddress addressesOk slotsOk eachOk ranksOk slotOk slotOf slotAt place every allBelow countBelow leastBelow driveOf part put num toBe _⊻_ xorAll sourcesFrom gathered opOf listedOf ownOf resolvedOf listBytes sourceOf ownEntry driveBad entryBad firstBad
+unfolding cdbOf decideOf stepOutcome validImage slotOf slotAt place every allBelow countBelow leastBelow driveOf part put num toBe _⊻_ xorAll sourcesFrom gathered opOf listedOf ownOf resolvedOf listBytes sourceOf ownEntry driveBad entryBad firstBad
 counting-not h =
     let x = h bench benchShape [] 1 0 2 junk (0 ∷ 2 ∷ []) 2 0xFFFFFFFF (on-bench (callBy (actingBy counting))) both-rows room .back in
     let z : _≡_ {A = ℕ} 254 1 = ap (λ (l : List ℕ). getD l 76 0) x in
@@ -190,7 +190,7 @@ abbrev pub forgetting : Acting
 forgetting s g sent act = onCouple (λ x y mirror. put s (spanAt g y) (passedOn s g x y mirror sent)) (leaves s g sent act) act
 
 pub forgetting-not : SumsDiffer (callBy (actingBy forgetting)) → ⊥
-unfolding decideOf stepOutcome validImage framedOk rangesOk offsetsOk tableOk statesOk newAddress addressesOk slotsOk eachOk ranksOk slotOk slotOf slotAt place every allBelow countBelow leastBelow driveOf part put num toBe _⊻_ xorAll opOf sixteenOf tenOf rowSum summedTo counts owed keeping share
+unfolding decideOf stepOutcome validImage slotOf slotAt place every allBelow countBelow leastBelow driveOf part put num toBe _⊻_ xorAll opOf sixteenOf tenOf rowSum summedTo counts owed keeping share
 forgetting-not h =
     let x = h bench benchShape bench-start (command 1 (xdwrite 0x00) fresh room ∷ []) ((refl, refl), tt) 0 (lit≤ tt) in
     let z : _≡_ {A = ℕ} 0xF5 0 = ap (λ (l : List ℕ). getD l 0 0) x in
@@ -201,7 +201,7 @@ abbrev pub storing : Acting
 storing s g sent act = onXpWrite (λ x. put s (spanAt g x) sent) (leaves s g sent act) act
 
 pub storing-not : SumsDiffer (callBy (actingBy storing)) → ⊥
-unfolding decideOf stepOutcome validImage framedOk rangesOk offsetsOk tableOk statesOk newAddress addressesOk slotsOk eachOk ranksOk slotOk slotOf slotAt place every allBelow sameList countBelow leastBelow driveOf emptySlot newestOf bestOf better released lowered lowerOne bytesOf part put num toBe _⊻_ xorAll opOf sixteenOf tenOf rowSum summedTo counts owed keeping share
+unfolding decideOf stepOutcome validImage slotOf slotAt place every allBelow sameList countBelow leastBelow driveOf emptySlot newestOf bestOf better released lowered lowerOne bytesOf part put num toBe _⊻_ xorAll opOf sixteenOf tenOf rowSum summedTo counts owed keeping share
 storing-not h =
     let calls = command 1 (xdwrite 0x06) fresh room ∷ command 1 (ten 0xC2 0 1) [] room ∷ command 3 (ten 0xC1 0 1) result room ∷ [] in
     let x = h bench benchShape bench-start calls ((λ e. refl), (tt, (carried, tt))) 0 (lit≤ tt) in
@@ -214,7 +214,7 @@ heedless d s g sent act = onXdWriteRead (λ x disable. leaves s g sent (XdWriteR
 
 -- a sum that changes with nothing owed; one that stays with a result owed
 pub heedless-not : (d : ℕ) → d < 2 → SumsDiffer (callBy (actingBy (heedless d))) → ⊥
-unfolding decideOf stepOutcome validImage framedOk rangesOk offsetsOk tableOk statesOk newAddress addressesOk slotsOk eachOk ranksOk slotOk slotOf slotAt place every allBelow countBelow leastBelow driveOf part put num toBe _⊻_ xorAll opOf tenOf rowSum summedTo counts owed keeping share
+unfolding decideOf stepOutcome validImage slotOf slotAt place every allBelow countBelow leastBelow driveOf part put num toBe _⊻_ xorAll opOf tenOf rowSum summedTo counts owed keeping share
 heedless-not zero l h =
     let x = h bench benchShape bench-start (command 1 (tenWith 0x53 0x04 0 1) fresh room ∷ []) (tt, tt) 0 (lit≤ tt) in
     let z : _≡_ {A = ℕ} 0xF5 0 = ap (λ (l : List ℕ). getD l 0 0) x in
