@@ -9,7 +9,7 @@ use Rattle.octets.specs.Operands.{xorAll}
 use Rattle.folds.specs.declared.Found.the-variants.{At}
 use Rattle.folds.specs.Every.{every}
 use Rattle.geometry.specs.declared.Geometry.{Geometry}
-use Rattle.geometry.specs.Header.{geometryOf, slotAt, place}
+use Rattle.geometry.specs.Header.{slotAt, place}
 use Rattle.drives.specs.Table.{driveOf}
 use Rattle.slots.specs.declared.Slot.{Slot}
 use Rattle.slots.specs.declared.Best.{Best}
@@ -17,7 +17,6 @@ use Rattle.slots.specs.Record.{slotOf}
 use Rattle.slots.specs.Slots.{usedCount}
 use Rattle.slots.specs.Find.{emptySlot, better, bestOf, newestOf}
 use Rattle.slots.specs.Change.{lowerOne, lowered, released, dropOne, droppedTo, dropped}
-use Rattle.image.specs.Valid.{validImage}
 use Rattle.command.specs.Command.{sourceOf}
 use Rattle.meaning.specs.Acts.{sourcesFrom, gathered}
 use Rattle.frozen.specs.Image as old
@@ -33,10 +32,6 @@ abbrev pub bestTo : then.Best → Best
 bestTo x = record { top = x .top; found = x .found }
 
 -- ---- the image
-
-pub valid-alike : (m : List ℕ) → validImage m ≡ old.valid m
-unfolding validImage slotOf slotAt
-valid-alike m = refl
 
 module _ (m : List ℕ) (h : old.Header) where
   pub drive-alike : (a : ℕ) → driveOf m (geo h) a ≡ old.driveOf m h a

@@ -61,18 +61,18 @@ module _ (g : Geometry) (f f′ : ℕ → Slot) (x : ℕ) (h : Right g f) (c : G
       let k = usedIn g f in
       record {
         used = λ j l u. rw gain-count
-        (⊎-elim (λ e. rw e (c .new)) (λ ne. let w = old-used j l ne u in used-ranked g k (k + 1) (f′ j .rank) (f′ j) w (w .rank-low) (omega arith)) (same j x));
+            (⊎-elim (λ e. rw e (c .new)) (λ ne. let w = old-used j l ne u in used-ranked g k (k + 1) (f′ j .rank) (f′ j) w (w .rank-low) (omega arith)) (same j x));
         empty = λ j l u. ⊎-elim (λ e. absurd (true≢false (sym new-used ∙ ap (λ (i : ℕ). isUsed (f′ i)) (sym e) ∙ u)))
-        (λ ne. let r = c .rest j l ne in r ∙ h .empty j l (ap isUsed (sym r) ∙ u))
-        (same j x);
+            (λ ne. let r = c .rest j l ne in r ∙ h .empty j l (ap isUsed (sym r) ∙ u))
+            (same j x);
         apart = λ i j li lj ui uj e. ⊎-elim
-        (λ p. ⊎-elim (λ q. p ∙ sym q) (λ q. let w = old-used j lj q uj in omega (arith, c .top, ap (λ (y : ℕ). f′ y .rank) p)) (same j x))
-        (λ p. ⊎-elim (λ q. let w = old-used i li p ui in omega (arith, c .top, ap (λ (y : ℕ). f′ y .rank) q))
-        (λ q. let a = c .rest i li p in
-        let b = c .rest j lj q in
-        h .apart i j li lj (ap isUsed (sym a) ∙ ui) (ap isUsed (sym b) ∙ uj) (ap (λ (t : Slot). t .rank) (sym a) ∙ e ∙ ap (λ (t : Slot). t .rank) b))
-        (same j x))
-        (same i x);
+            (λ p. ⊎-elim (λ q. p ∙ sym q) (λ q. let w = old-used j lj q uj in omega (arith, c .top, ap (λ (y : ℕ). f′ y .rank) p)) (same j x))
+            (λ p. ⊎-elim (λ q. let w = old-used i li p ui in omega (arith, c .top, ap (λ (y : ℕ). f′ y .rank) q))
+            (λ q. let a = c .rest i li p in
+            let b = c .rest j lj q in
+            h .apart i j li lj (ap isUsed (sym a) ∙ ui) (ap isUsed (sym b) ∙ uj) (ap (λ (t : Slot). t .rank) (sym a) ∙ e ∙ ap (λ (t : Slot). t .rank) b))
+            (same j x))
+            (same i x);
       }
 
   pub gain-ages : ages g f′ ≡ x ∷ ages g f

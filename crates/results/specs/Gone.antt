@@ -70,17 +70,17 @@ module _ (g : Geometry) (f f′ : ℕ → Slot) (x : ℕ) (h : Right g f) (c : L
   gone-right =
       record {
         used = λ j l u. (let w = gone-used j l u in
-        let v = at-x in
-        let t = h .used j l (w .1) in
-        let n = lower-in (f x .rank) (f j .rank) (other-rank j l (w .0) (w .1)) (usedIn g f′) (v .rank-low) (omega (arith, gone-count)) (t .rank-low) (omega (arith, gone-count)) in
-        rw (w .2) (used-ranked g (usedIn g f) (usedIn g f′) (lowerRank (f x .rank) (f j .rank)) (f j) t (n .0) (n .1)));
+            let v = at-x in
+            let t = h .used j l (w .1) in
+            let n = lower-in (f x .rank) (f j .rank) (other-rank j l (w .0) (w .1)) (usedIn g f′) (v .rank-low) (omega (arith, gone-count)) (t .rank-low) (omega (arith, gone-count)) in
+            rw (w .2) (used-ranked g (usedIn g f) (usedIn g f′) (lowerRank (f x .rank) (f j .rank)) (f j) t (n .0) (n .1)));
         empty = λ j l u. ⊎-elim (λ e. ap f′ e ∙ c .zeroed)
-        (λ ne. let r = c .rest j l ne in
-        let z : f j ≡ zeroSlot = h .empty j l (ap isUsed (sym r) ∙ u) in
-        r ∙ rw (z, lower-below (f x .rank) 0 (omega arith)))
-        (same j x);
+            (λ ne. let r = c .rest j l ne in
+            let z : f j ≡ zeroSlot = h .empty j l (ap isUsed (sym r) ∙ u) in
+            r ∙ rw (z, lower-below (f x .rank) 0 (omega arith)))
+            (same j x);
         apart = λ i j li lj ui uj e.
-        h .apart i j li lj (gone-used i li ui .1) (gone-used j lj uj .1) (gone-rank i li ui (f′ j .rank) e ∙ sym (gone-rank j lj uj (f′ j .rank) refl));
+            h .apart i j li lj (gone-used i li ui .1) (gone-used j lj uj .1) (gone-rank i li ui (f′ j .rank) e ∙ sym (gone-rank j lj uj (f′ j .rank) refl));
       }
 
   -- ---- by age

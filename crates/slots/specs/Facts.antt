@@ -120,8 +120,8 @@ module _ (s : List ℕ) (g : Geometry) where
         used = λ i l u. used-facts g _ _ (f i) u (at ok i l) .0;
         empty = λ i l u. empty-is g _ _ (f i) u (at ok i l);
         apart = λ i j li lj ui uj e. ⊎-elim (λ q. q)
-        (λ ne. ⊎-elim (λ l. absurd (new-at ok j i lj uj l e)) (λ l. absurd (new-at ok i j li ui l (sym e))) (differ i j ne))
-        (same i j);
+            (λ ne. ⊎-elim (λ l. absurd (new-at ok j i lj uj l e)) (λ l. absurd (new-at ok i j li ui l (sym e))) (differ i j ne))
+            (same i j);
       }
 
   new-of : Right g f → (i : ℕ) → i < g .s → isUsed (f i) ≡ true → newRank f i ≡ true

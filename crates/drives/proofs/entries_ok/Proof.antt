@@ -44,8 +44,7 @@ loop-again c =
     let start = c .before .before .before .before .before .before .before .before .before .before .before in
     let xs = start .args .image .now in
     let state = ap (λ (k : ℕ). leb k 1) (c .byte .ensures .0 ∙ ap (λ (k : ℕ). getD xs k 0) (c .before .entry-at .ensures .0)) in
-    let new = kept .ensures .0 ∙ new-is (the-loop .kept) _ (the-loop .i) _ (the-loop .inv .3) (own .ensures .0) in
-    (
+    let new = kept .ensures .0 ∙ new-is (the-loop .kept) _ (the-loop .i) _ (the-loop .inv .3) (own .ensures .0) in (
       omega arith,
       all-turn _ _ _ _ (the-loop .inv .1) (ap₂ _&&_ state new ∙ every-joined _ _),
       kept .kept .0 ∙ the-loop .inv .2,

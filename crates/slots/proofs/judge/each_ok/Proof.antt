@@ -37,8 +37,7 @@ loop-again c =
     let the-loop = c .before .before .before .before .before .before .before .loop in
     let start = c .before .before .before .before .before .before .before .before .before .before in
     let new = kept .ensures .0 ∙ new-is (the-loop .kept) _ (the-loop .i) _ (the-loop .inv .3) rank in
-    let turn = c .slot-ok .ensures ∙ ap₂ (slotOk (start .args .g) (start .args .k)) new r in
-    (
+    let turn = c .slot-ok .ensures ∙ ap₂ (slotOk (start .args .g) (start .args .k)) new r in (
       omega arith,
       all-turn _ _ _ _ (the-loop .inv .1) turn,
       kept .kept .0 ∙ the-loop .inv .2,
