@@ -10,7 +10,7 @@ use Rattle.octets.specs.Octets.{Octets}
 use Rattle.folds.specs.declared.Found.the-variants.{At}
 use Rattle.geometry.specs.declared.Geometry.{Geometry}
 use Rattle.drives.specs.declared.Came.{Came}
-use Rattle.drives.specs.Table.{stateOf, addressOf, to, targetOf, secondaryOf, failed}
+use Rattle.drives.specs.Table.{stateOf, addressOf, to, targetOf, secondaryOf, failed, driveOf}
 use Rattle.drives.specs.Facts.{table-addresses, address-lt}
 use Rattle.drives.specs.Lookup.{drive-found, drive-inside}
 use Rattle.results.specs.Results.{Result}
@@ -46,7 +46,7 @@ pub record Target (m : List ℕ) (g : Geometry) (a : Came) (t : ℕ) : Type 0 wh
 
 -- a drive by its own address
 pub own-address : (m : List ℕ) (g : Geometry) (t : ℕ) → Shelf m g → t < g .d → failed m g t ≡ false → Target m g (to (addressOf m g t)) t
-own-address m g t h l e = record { shelf = h; found = drive-found m g (table-addresses m g (h .table-ok)) t l; present = e }
+own-address m g t h l e = record { shelf = h; found = drive-found m g (h .table-ok) t l; present = e }
 
 -- an address of an image of bytes fits the three bytes of XDWRITE's CDB
 pub address-fits : (m : List ℕ) (g : Geometry) → Shelf m g → Octets m → (a : Came) (x t : ℕ) → secondaryOf m g a x ≡ At t → x < 16777216

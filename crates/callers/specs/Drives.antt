@@ -112,7 +112,7 @@ module _ (m : List ℕ) (g : Geometry) (a : Came) (t : ℕ) (h : Names m g a t) 
           wrote = tt;
           kept = λ x r o.
               ap (λ (y : List ℕ). blocksOf y g x) mark-is
-              ∙ part-marked m g t state p inside (spanAt g x) _ (omega (arith, place-after-media g (x .drive) (x .block .0), p .slots-is, p .media-is));
+              ∙ part-marked m g t state p inside (spanAt g x) _ (omega (arith, place-after-media g (x .drive) (x .block .0), p .slots-end));
           retained = ap (λ (x : List ℕ). results x g) mark-is
               ∙ kept-results m (marked m g t state) g p (part-marked m g t state p inside (g .slots) (g .s * slotSize g) (omega arith)) (h .shelf .slots-ok);
         }

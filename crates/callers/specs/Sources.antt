@@ -15,7 +15,7 @@ use Rattle.geometry.specs.declared.Geometry.{Geometry}
 use Rattle.geometry.specs.Places.{Range}
 use Rattle.drives.specs.declared.Came.{Came}
 use Rattle.drives.specs.Table.{addressOf, failed}
-use Rattle.drives.specs.Facts.{table-addresses, address-lt}
+use Rattle.drives.specs.Facts.{address-lt}
 use Rattle.drives.specs.Lookup.{drive-found}
 use Rattle.image.specs.Shelf.{Shelf, shelf-frame}
 use Rattle.command.specs.declared.Source.{Source}
@@ -68,7 +68,7 @@ pub names-drive : (m : List ℕ) (g : Geometry) → Shelf m g → Octets m → (
     → Names m g a x (sourceAt m g b e)
 names-drive m g h o a x b e r up other =
     record {
-      there = record { drive = e; found = drive-found m g (table-addresses m g (h .table-ok)) e (r .drive-in); range = r; present = up; other = other };
+      there = record { drive = e; found = drive-found m g (h .table-ok) e (r .drive-in); range = r; present = up; other = other };
       small = omega (arith, address-lt m g (shelf-frame m g h) o e (r .drive-in));
     }
 

@@ -52,7 +52,7 @@ module _ (g : Geometry) (p : Placed g) where
     where
       before : (ws : List Over) → EachIs (λ w. OffSpan g 0 (g .slots) (w .blocks)) ws
       before [] = tt
-      before (w ∷ ws) = (inl (omega (arith, span-after-media g (w .blocks), p .slots-is, p .media-is)), before ws)
+      before (w ∷ ws) = (inl (omega (arith, span-after-media g (w .blocks), p .slots-end)), before ws)
 
 module _ (g : Geometry) (a n : ℕ) where
   pub written-beside : (m : List ℕ) (ws : List Over) → EachIs (Covers g) ws → EachIs (λ w. OffSpan g a n (w .blocks)) ws → part (written m g ws) a n ≡ part m a n

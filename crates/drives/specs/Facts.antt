@@ -9,28 +9,24 @@ use borrow.Author.Tests.{eqb-false, not-true}
 use Rattle.octets.specs.Octets.{Octets}
 use Rattle.octets.specs.Number.{be-lt}
 use Rattle.folds.specs.Cases.{same, apart}
-use Rattle.folds.specs.Every.{holds}
+use Rattle.folds.specs.Every.{every, holds}
 use Rattle.folds.specs.All.{all-at}
+use Rattle.rules.specs.Must.{tests}
 use Rattle.geometry.specs.declared.Geometry.{Geometry}
 use Rattle.geometry.specs.Header.{entryAt}
 use Rattle.geometry.specs.Frame.{Framed}
-use Rattle.drives.specs.Table.{addressOf, statesOk, newAddress, addressesOk, tableOk}
+use Rattle.drives.specs.Table.{addressOf, entryMusts, tableOk}
 
 module _ (s : List ℕ) (g : Geometry) where
-  pub table-states : tableOk s g ≡ true → statesOk s g ≡ true
+  pub entry-ok : tableOk s g ≡ true → (i : ℕ) → i < g .d → every (tests (entryMusts s g i)) ≡ true
   unfolding tableOk
-  table-states ok = holds _ 0 ok
+  entry-ok ok i l = all-at _ (g .d) i ok l
 
-  pub table-addresses : tableOk s g ≡ true → addressesOk s g ≡ true
-  unfolding tableOk
-  table-addresses ok = holds _ 1 ok
-
-  earlier-differs : addressesOk s g ≡ true → (i j : ℕ) → i < g .d → j < i → addressOf s g j ≡ addressOf s g i → ⊥
-  unfolding addressesOk newAddress
-  earlier-differs ok i j li l = eqb-false _ _ (not-true _ (all-at _ i j (all-at _ (g .d) i ok li) l))
+  earlier-differs : tableOk s g ≡ true → (i j : ℕ) → i < g .d → j < i → addressOf s g j ≡ addressOf s g i → ⊥
+  earlier-differs ok i j li l = eqb-false _ _ (not-true _ (all-at _ i j (holds _ 1 (entry-ok ok i li)) l))
 
   -- "Addresses differ.": drives with one address are one drive
-  pub addresses-differ : addressesOk s g ≡ true → (i j : ℕ) → i < g .d → j < g .d → addressOf s g i ≡ addressOf s g j → i ≡ j
+  pub addresses-differ : tableOk s g ≡ true → (i j : ℕ) → i < g .d → j < g .d → addressOf s g i ≡ addressOf s g j → i ≡ j
   addresses-differ ok i j li lj q =
       ⊎-elim (λ e. e)
       (λ ne. ⊎-elim (λ l. absurd (earlier-differs ok j i lj l q)) (λ l. absurd (earlier-differs ok i j li l (sym q))) (apart i j ne))

@@ -12,23 +12,19 @@ use Rattle.octets.specs.Number.{front-be}
 use Rattle.folds.specs.Every.{every-ext}
 use Rattle.folds.specs.All.{all-ext}
 use Rattle.folds.specs.Least.{least-ext}
+use Rattle.rules.specs.Must.{tests}
 use Rattle.geometry.specs.declared.Geometry.{Geometry}
 use Rattle.geometry.specs.Header.{geometryOf, entryAt}
 use Rattle.geometry.specs.Frame.{Placed}
 use Rattle.geometry.specs.Kept.{front-geometry}
-use Rattle.drives.specs.Table.{stateOf, addressOf, failed, statesOk, newAddress, addressesOk, tableOk, driveOf}
+use Rattle.drives.specs.Table.{stateOf, addressOf, failed, newAddress, entryMusts, tableOk, driveOf}
 
 -- ---- the table is its entries
 
 module _ (s t : List ℕ) (g : Geometry) where
-  pub states-ext : ((i : ℕ) → i < g .d → stateOf s g i ≡ stateOf t g i) → statesOk s g ≡ statesOk t g
-  unfolding statesOk
-  states-ext h = all-ext _ _ (g .d) (λ i l. ap (λ (k : ℕ). leb k 1) (h i l))
-
   module _ (h : (i : ℕ) → i < g .d → addressOf s g i ≡ addressOf t g i) where
-    pub addresses-ext : addressesOk s g ≡ addressesOk t g
-    unfolding addressesOk newAddress
-    addresses-ext = all-ext _ _ (g .d) (λ i l. all-ext _ _ i (λ j lj. ap₂ (λ (a b : ℕ). not (eqb a b)) (h j (omega arith)) (h i l)))
+    pub new-ext : (i : ℕ) → i < g .d → newAddress s g i ≡ newAddress t g i
+    new-ext i l = all-ext _ _ i (λ j lj. ap₂ (λ (a b : ℕ). not (eqb a b)) (h j (omega arith)) (h i l))
 
     pub drive-ext : (a : ℕ) → driveOf s g a ≡ driveOf t g a
     unfolding driveOf
@@ -56,15 +52,10 @@ module _ (s t : List ℕ) (g : Geometry) (p : Placed g) (e : SameFront s t g) wh
   pub drive-same : (a : ℕ) → driveOf s g a ≡ driveOf t g a
   drive-same = drive-ext s t g address-same
 
-  pub states-same : statesOk s g ≡ statesOk t g
-  states-same = states-ext s t g state-same
-
-  pub addresses-same : addressesOk s g ≡ addressesOk t g
-  addresses-same = addresses-ext s t g address-same
-
   pub table-same : tableOk s g ≡ tableOk t g
   unfolding tableOk
-  table-same = every-ext _ _ (states-same, (addresses-same, tt))
+  table-same =
+      all-ext _ _ (g .d) (λ i l. every-ext (tests (entryMusts s g i)) (tests (entryMusts t g i)) (ap (λ (k : ℕ). leb k 1) (state-same i l), (new-ext s t g address-same i l, tt)))
 
   pub geometry-same : geometryOf s ≡ geometryOf t
   geometry-same = front-geometry s t (g .slots) e (omega arith)

@@ -10,12 +10,12 @@ use Rattle.folds.specs.declared.Found.the-variants.{At, Nothing}
 use Rattle.folds.specs.Least.{least-only, least-inside, least-nothing, least-none}
 use Rattle.geometry.specs.declared.Geometry.{Geometry}
 use Rattle.geometry.specs.Frame.{Framed}
-use Rattle.drives.specs.Table.{addressOf, addressesOk, driveOf}
+use Rattle.drives.specs.Table.{addressOf, tableOk, driveOf}
 use Rattle.drives.specs.Facts.{addresses-differ, address-lt}
 
 module _ (s : List ℕ) (g : Geometry) where
   -- a drive's own address names it
-  pub drive-found : addressesOk s g ≡ true → (i : ℕ) → i < g .d → driveOf s g (addressOf s g i) ≡ At i
+  pub drive-found : tableOk s g ≡ true → (i : ℕ) → i < g .d → driveOf s g (addressOf s g i) ≡ At i
   unfolding driveOf
   drive-found ok i l =
       least-only _ (g .d) i l (eq-eqb (addressOf s g i) (addressOf s g i) refl)

@@ -13,15 +13,16 @@ use Rattle.octets.specs.Put.{put, length-put, getD-put-before, getD-put-in, get
 use Rattle.octets.specs.PutPut.{part-put-above}
 use Rattle.octets.specs.Number.{be-put-apart}
 use Rattle.folds.specs.Cases.{same, apart, order}
-use Rattle.folds.specs.Every.{every-of}
-use Rattle.folds.specs.All.{all-at, all-intro}
+use Rattle.folds.specs.Every.{holds, every-of}
+use Rattle.folds.specs.All.{all-intro}
+use Rattle.rules.specs.Must.{tests}
 use Rattle.geometry.specs.declared.Geometry.{Geometry}
 use Rattle.geometry.specs.Header.{geometryOf, entryAt}
 use Rattle.geometry.specs.Frame.{Placed, Framed}
 use Rattle.geometry.specs.Kept.{geometry-put}
-use Rattle.drives.specs.Table.{stateOf, addressOf, statesOk, addressesOk, tableOk, marked}
-use Rattle.drives.specs.Facts.{table-states, table-addresses}
-use Rattle.drives.specs.Front.{addresses-ext}
+use Rattle.drives.specs.Table.{stateOf, addressOf, entryMusts, tableOk, marked}
+use Rattle.drives.specs.Facts.{entry-ok}
+use Rattle.drives.specs.Front.{new-ext}
 
 module _ (s : List ℕ) (g : Geometry) (i state : ℕ) where
   pub length-marked : length (marked s g i state) ≡ length s
@@ -42,9 +43,6 @@ module _ (s : List ℕ) (g : Geometry) (i state : ℕ) where
   address-marked j =
       be-put-apart 3 s (entryAt g i) (state ∷ []) (entryAt g j + 1) (⊎-elim (λ l. inl (omega arith)) (λ l. inr (omega arith)) (order j i))
 
-  pub addresses-marked : addressesOk (marked s g i state) g ≡ addressesOk s g
-  addresses-marked = addresses-ext (marked s g i state) s g (λ j l. address-marked j)
-
   -- the header, and everything from the slots on
   pub geometry-marked : Placed g → geometryOf (marked s g i state) ≡ geometryOf s
   unfolding marked
@@ -63,14 +61,11 @@ module _ (s : List ℕ) (g : Geometry) (i state : ℕ) where
         ∙ getD-put-in s (entryAt g i) (state ∷ []) 0 (omega arith) (omega arith)
 
     -- a right table stays right
-    pub states-marked : state ≤ 1 → statesOk s g ≡ true → statesOk (marked s g i state) g ≡ true
-    unfolding statesOk
-    states-marked h ok =
-        all-intro _ (g .d)
-        (λ j lj. ⊎-elim (λ (q : j ≡ i). rw (q, state-marked) (le-leb state 1 h))
-        (λ ne. rw (state-marked-other j ne) (all-at _ (g .d) j ok lj))
-        (same j i))
-
     pub table-marked : state ≤ 1 → tableOk s g ≡ true → tableOk (marked s g i state) g ≡ true
     unfolding tableOk
-    table-marked h ok = every-of _ (states-marked h (table-states s g ok), (addresses-marked ∙ table-addresses s g ok, tt))
+    table-marked h ok =
+        all-intro _ (g .d)
+        (λ j lj. every-of (tests (entryMusts (marked s g i state) g j)) (
+          ⊎-elim (λ (q : j ≡ i). rw (q, state-marked) (le-leb state 1 h)) (λ ne. rw (state-marked-other j ne) (holds _ 0 (entry-ok s g ok j lj))) (same j i),
+          (new-ext (marked s g i state) s g (λ k l. address-marked k) j lj ∙ holds _ 1 (entry-ok s g ok j lj), tt),
+        ))

@@ -10,9 +10,10 @@ use Rattle.folds.specs.Every.{every}
 use Rattle.folds.specs.All.{allBelow}
 use Rattle.folds.specs.Least.{leastBelow}
 use Rattle.geometry.specs.declared.Geometry.{Geometry}
-use Rattle.geometry.specs.Header.{entryAt}
+use Rattle.geometry.specs.Header.{entryAt, Spot, Byte}
 use Rattle.geometry.specs.Stores.{Store, store, Table, stored}
 use Rattle.drives.specs.declared.Came.{Came}
+use Rattle.rules.specs.Must.{Must, must, tests}
 
 -- "per drive 4 bytes, state .. and a 3-byte address"
 abbrev pub stateOf : List ℕ → Geometry → ℕ → ℕ
@@ -25,19 +26,16 @@ addressOf m g i = be 3 m (entryAt g i + 1)
 abbrev pub failed : List ℕ → Geometry → ℕ → Bool
 failed m g i = eqb (stateOf m g i) 1
 
--- "state (0 present, 1 failed)"
-unfoldable pub statesOk : List ℕ → Geometry → Bool
-statesOk m g = allBelow (g .d) (λ i. leb (stateOf m g i) 1)
-
 -- "Addresses differ.": drive i's is none of an earlier drive
-unfoldable pub newAddress : List ℕ → Geometry → ℕ → Bool
+abbrev pub newAddress : List ℕ → Geometry → ℕ → Bool
 newAddress m g i = allBelow i (λ j. not (eqb (addressOf m g j) (addressOf m g i)))
 
-unfoldable pub addressesOk : List ℕ → Geometry → Bool
-addressesOk m g = allBelow (g .d) (newAddress m g)
+-- drive i's entry: "state (0 present, 1 failed)", and its address, seen where it repeats
+abbrev pub entryMusts : List ℕ → Geometry → ℕ → List (Must Spot)
+entryMusts m g i = must (Byte (entryAt g i)) (leb (stateOf m g i) 1) ∷ must (Byte (entryAt g i + 1)) (newAddress m g i) ∷ []
 
 unfoldable pub tableOk : List ℕ → Geometry → Bool
-tableOk m g = every (statesOk m g ∷ addressesOk m g ∷ [])
+tableOk m g = allBelow (g .d) (λ i. every (tests (entryMusts m g i)))
 
 -- the drive with address a, compared as a whole number
 unfoldable pub driveOf : List ℕ → Geometry → ℕ → Found

@@ -4,9 +4,10 @@ use folds::Found;
 use geometry::Address;
 use geometry::Geometry;
 ghost use mathlib.Core.Path.{_≡_};
-ghost use Prim.Native.Nat.{_<_};
+ghost use Prim.Native.Nat.{_<_, _≤_};
+ghost use lib.ListN.{length};
 ghost use Rattle.geometry.specs.Frame.{Framed};
-ghost use Rattle.drives.specs.Table.{addressOf, failed, statesOk, newAddress, addressesOk, tableOk, driveOf, targetOf, secondaryOf, sourceDrive, marked};
+ghost use Rattle.drives.specs.Table.{addressOf, failed, tableOk, driveOf, targetOf, secondaryOf, sourceDrive, marked};
 
 // How a command came: the address that it was sent to.
 pub struct Came {
@@ -70,58 +71,30 @@ pub fn find_source(image: &[u8], g: Geometry, came: Came, address: Address) -> F
     find_drive(image, g, address)
 }
 
-// Is every state 0 or 1?
-fn states_ok(image: &[u8], g: Geometry) -> bool
-    requires { ⌜ Framed (now image) g ⌝ }
-    ensures { λ r. ⌜ r ≡ statesOk (now (image .entry)) g ⌝ }
-{
-    let n = g.d;
-    let mut ok = true;
-    let mut i = 0;
-    while i < n {
-        ok = ok & (octets::byte(image, g.entry_at(i)) <= 1);
-        i += 1;
-    }
-    ok
-}
-
-// Is drive i's address none of an earlier drive?
-fn new_address(image: &[u8], g: Geometry, i: usize) -> bool
-    requires { ⌜ Framed (now image) g × (i < g .d) ⌝ }
-    ensures { λ r. ⌜ r ≡ newAddress (now (image .entry)) g i ⌝ }
-{
-    let own = address(image, g, i);
-    let mut ok = true;
-    let mut j = 0;
-    while j < i {
-        let earlier = address(image, g, j);
-        ok = ok & (earlier.0 != own.0);
-        j += 1;
-    }
-    ok
-}
-
-// Do all addresses differ?
-fn addresses_ok(image: &[u8], g: Geometry) -> bool
-    requires { ⌜ Framed (now image) g ⌝ }
-    ensures { λ r. ⌜ r ≡ addressesOk (now (image .entry)) g ⌝ }
-{
-    let n = g.d;
-    let mut ok = true;
-    let mut i = 0;
-    while i < n {
-        ok = ok & new_address(image, g, i);
-        i += 1;
-    }
-    ok
-}
-
 // Are the states and the addresses right?
 pub fn table_ok(image: &[u8], g: Geometry) -> bool
     requires { ⌜ Framed (now image) g ⌝ }
     ensures { λ r. ⌜ r ≡ tableOk (now (image .entry)) g ⌝ }
 {
-    states_ok(image, g) & addresses_ok(image, g)
+    let mut kept = [0u32; 32];
+    entries_ok(image, g, &mut kept)
+}
+
+// Each address is read once: those of the drives passed are kept.
+fn entries_ok(image: &[u8], g: Geometry, kept: &mut [u32]) -> bool
+    requires { ⌜ Framed (now image) g × (32 ≤ length (now kept)) ⌝ }
+    ensures { λ r. ⌜ r ≡ tableOk (now (image .entry)) g ⌝ }
+{
+    let n = g.d;
+    let mut ok = true;
+    let mut i = 0;
+    while i < n {
+        let own = address(image, g, i);
+        let new = octets::keep_new(kept, i, own.0);
+        ok = ok & ((octets::byte(image, g.entry_at(i)) <= 1) & new);
+        i += 1;
+    }
+    ok
 }
 
 // Writes drive i's state byte.

@@ -6,3 +6,4 @@ pub mod Same
 pub mod Count
 pub mod Least
 pub mod Tests
+pub mod Onto

@@ -13,13 +13,11 @@ use Rattle.folds.specs.declared.Found.{Found}
 use Rattle.rules.specs.Rule.{rule, first, first-append}
 use Rattle.folds.specs.Least.{index}
 use Rattle.geometry.specs.declared.Geometry.{Geometry}
-use Rattle.geometry.specs.Header.{geometryOf, rangesOk, offsetsOk, framedOk, slotAt, place}
-use Rattle.drives.specs.Table.{statesOk, newAddress, addressesOk, tableOk, driveOf, to, marked}
+use Rattle.geometry.specs.Header.{geometryOf, slotAt, place}
+use Rattle.drives.specs.Table.{driveOf, to, marked}
 use Rattle.slots.specs.Record.{slotOf}
 use Rattle.slots.specs.Record as slots
-use Rattle.slots.specs.Slots.{slotOk, eachOk, ranksOk, slotsOk}
 use Rattle.slots.specs.Find.{emptySlot, newestOf}
-use Rattle.image.specs.Valid.{validImage}
 use Rattle.sense.specs.declared.Answer.{Answer}
 use Rattle.sense.specs.declared.Answer.the-variants.{Good, WrongCount}
 use Rattle.sense.specs.declared.Outcome.{Outcome}
@@ -44,6 +42,7 @@ use Rattle.frozen.specs.Answers as told
 use Rattle.frozen.specs.Commands as was
 use Rattle.frozen.specs.Step as signed
 use Rattle.frozen.specs.Alike.{geo, released-alike, dropped-alike, newest-alike, gathered-alike}
+use Rattle.frozen.specs.Judged.{valid-alike}
 use Rattle.frozen.specs.Lists.{bytesOf, forget, first-forget, first-view, byFault, sources-alike}
 
 -- ---- a step: image m, target address a, CDB c, data-out bytes s, receive room r
@@ -97,23 +96,23 @@ module _ (m : List ℕ) (a : ℕ) (c s r : List ℕ) where
   unknown = was.plan 0 [] (was.leaves m)
 
   plain : Same Read (was.read m h t c s (length r)) × Same Write (was.write m h t c s (length r)) × Same XpWrite (was.xpwrite m h t c s (length r)) × Same Unknown unknown
-  unfolding validImage framedOk rangesOk offsetsOk tableOk statesOk newAddress addressesOk slotsOk eachOk ranksOk slotOk slotOf slotAt place driveOf tenOf noSense plainSense toBe
+  unfolding slotOf slotAt place driveOf tenOf noSense plainSense toBe
   plain = (
-    by-lists Read (was.read m h t c s (length r)) (ahead 10 ++ was.read m h t c s (length r) .checks) refl refl,
-    by-lists Write (was.write m h t c s (length r)) (ahead 10 ++ was.write m h t c s (length r) .checks) refl refl,
-    by-lists XpWrite (was.xpwrite m h t c s (length r)) (ahead 10 ++ was.xpwrite m h t c s (length r) .checks) refl refl,
-    by-lists Unknown unknown (ahead 0 ++ was.sends 0 s ∷ []) refl refl,
+    by-lists Read (was.read m h t c s (length r)) (ahead 10 ++ was.read m h t c s (length r) .checks) (rw (valid-alike m)) refl,
+    by-lists Write (was.write m h t c s (length r)) (ahead 10 ++ was.write m h t c s (length r) .checks) (rw (valid-alike m)) refl,
+    by-lists XpWrite (was.xpwrite m h t c s (length r)) (ahead 10 ++ was.xpwrite m h t c s (length r) .checks) (rw (valid-alike m)) refl,
+    by-lists Unknown unknown (ahead 0 ++ was.sends 0 s ∷ []) (rw (valid-alike m)) refl,
   )
 
   -- XDREAD: the same result answers, and goes
   xdread : Same XdRead (was.xdread m h t c s (length r))
-  unfolding validImage framedOk rangesOk offsetsOk tableOk statesOk newAddress addressesOk slotsOk eachOk ranksOk slotOk slotOf slotAt place driveOf tenOf noSense plainSense toBe
+  unfolding slotOf slotAt place driveOf tenOf noSense plainSense toBe
   xdread =
       let f = newest-alike m h t (was.block c) in
       let p = was.xdreadFrom m h t c s (length r) in
       let i = index (then.newest m h t (was.block c)) in
       by-lists XdRead (was.xdread m h t c s (length r)) (ahead 10 ++ was.xdread m h t c s (length r) .checks)
-      (ap (λ (x : Found). ahead 10 ++ p x .checks) f)
+      (rw (valid-alike m) (ap (λ (x : Found). ahead 10 ++ p x .checks) f))
       (ap (first refuse (ahead 10 ++ was.xdread m h t c s (length r) .checks))
       (ap (λ (x : Found). view (Go (ToXdRead (spanAt (was.block c) (was.count c)) (index x)) Good)) f
       ∙ ap (λ (x : List ℕ). carry (record { image = x; hands = p (then.newest m h t (was.block c)) .done .hands })) (released-alike h m i)))
@@ -126,9 +125,9 @@ module _ (m : List ℕ) (a : ℕ) (c s r : List ℕ) where
   retain-alike i b n bytes false = refl
 
   xdwrite : Same XdWrite (was.xdwrite m h t c s)
-  unfolding validImage framedOk rangesOk offsetsOk tableOk statesOk newAddress addressesOk slotsOk eachOk ranksOk slotOk slotOf slotAt place driveOf emptySlot slots.bytesOf sixteenOf noSense plainSense absentSense nestedSense toBe
+  unfolding slotOf slotAt place driveOf emptySlot slots.bytesOf sixteenOf noSense plainSense absentSense nestedSense toBe
   xdwrite =
-      by-lists XdWrite (was.xdwrite m h t c s) (ahead 16 ++ was.xdwrite m h t c s .checks) refl
+      by-lists XdWrite (was.xdwrite m h t c s) (ahead 16 ++ was.xdwrite m h t c s .checks) (rw (valid-alike m))
       (ap (first refuse (ahead 16 ++ was.xdwrite m h t c s .checks)) (pick (eqb (was.secCtl c) 3)))
     where
       x : Span
@@ -172,17 +171,17 @@ module _ (m : List ℕ) (a : ℕ) (c s r : List ℕ) where
       ∙ ap (first refuse (us ++ entries)) q
 
   rebuild : Same Rebuild (was.rebuild m h t c s)
-  unfolding validImage framedOk rangesOk offsetsOk tableOk statesOk newAddress addressesOk slotsOk eachOk ranksOk slotOk slotOf slotAt place driveOf listedOf ownOf resolvedOf listBytes sourceOf ownEntry noSense plainSense toBe
+  unfolding slotOf slotAt place driveOf listedOf ownOf resolvedOf listBytes sourceOf ownEntry noSense plainSense toBe
   rebuild =
       by-entries (before Rebuild) (ahead 10 ++ was.listChecks m h t c s (not (eqb (was.int c) 0) && eqb (be 4 c 2) 0xFFFFFFFF)) (carriedOut Rebuild m (to a) c s)
-      (carry (was.rebuild m h t c s .done)) refl
+      (carry (was.rebuild m h t c s .done)) (rw (valid-alike m))
       (ap (λ (x : List ℕ). carry (was.leaves (put m (old.blockAt h t (was.own s)) x))) (gathered-alike m h (to a) s n c))
 
   regenerate : Same Regenerate (was.regenerate m h t c s)
-  unfolding validImage framedOk rangesOk offsetsOk tableOk statesOk newAddress addressesOk slotsOk eachOk ranksOk slotOk slotOf slotAt place driveOf emptySlot slots.bytesOf listedOf ownOf resolvedOf listBytes sourceOf ownEntry noSense plainSense toBe
+  unfolding slotOf slotAt place driveOf emptySlot slots.bytesOf listedOf ownOf resolvedOf listBytes sourceOf ownEntry noSense plainSense toBe
   regenerate =
       by-entries (before Regenerate) (ahead 10 ++ was.listChecks m h t c s (ltb (h .M) (be 4 c 2)) ++ was.check 9 (was.isNothing (then.emptySlot m h)) told.busy ∷ [])
-      (carriedOut Regenerate m (to a) c s) (carry (was.regenerate m h t c s .done)) refl
+      (carriedOut Regenerate m (to a) c s) (carry (was.regenerate m h t c s .done)) (rw (valid-alike m))
       (ap (λ (x : List ℕ). carry (was.leaves (then.retainedOver m m h (index (then.emptySlot m h)) 2 t (was.own s) n (old.blocks m h t (was.own s) n ⊻ x)))) (gathered-alike m h (to a) s n c))
 
   -- "Code | Command": by 01's table alone
@@ -212,8 +211,8 @@ module _ (m : List ℕ) (a : ℕ) where
   called = map forget (calls m (to a)) ≡ signed.calls m a
 
   calls-alike : called
-  unfolding validImage framedOk rangesOk offsetsOk tableOk statesOk newAddress addressesOk slotsOk eachOk ranksOk slotOk slotOf slotAt driveOf noSense
-  calls-alike = refl
+  unfolding slotOf slotAt driveOf noSense
+  calls-alike = rw (valid-alike m)
 
   pub reset-as-signed : (bytesOf (resetAnswer m (to a)) ≡ signed.resetAnswer m a) × (resetImage m (to a) ≡ signed.resetImage m a)
   unfolding resetAnswer resetImage noSense driveOf

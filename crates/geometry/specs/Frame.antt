@@ -1,15 +1,17 @@
 -- What the header's tests say, by name, and the bounds that follow.
-use Prim.Native.Nat.{ℕ, _*_, _%_, _≤_}
+use Prim.Native.Nat.{ℕ, _+_, _*_, _%_, _≤_, _<_}
 use native.Mathlib.Nat.{mul-le-mul}
 use native.Mathlib.Omega.{arith}
-use mathlib.Core.List.{List}
-use mathlib.Core.Bool.{true}
-use mathlib.Core.Path.{_≡_, _∙_}
+use mathlib.Core.List.{List, [], _∷_, _++_}
+use mathlib.Core.Bool.{Bool, true, false, cond}
+use mathlib.Core.Path.{_≡_, ap, _∙_}
 use lib.ListN.{length}
+use lib.Dec.{leb, eqb}
 use borrow.Author.Tests.{leb-true, eqb-true}
-use Rattle.folds.specs.Every.{holds}
+use Rattle.folds.specs.Every.{every, holds}
+use Rattle.rules.specs.Must.{Must, must, tests, every-both}
 use Rattle.geometry.specs.declared.Geometry.{Geometry}
-use Rattle.geometry.specs.Header.{geometryOf, rangesOk, offsetsOk, framedOk, slotSize, tableEnd, slotsEnd, endOf}
+use Rattle.geometry.specs.Header.{geometryOf, Spot, Length, rangeMusts, offsetMusts, headerMusts, rangesOk, offsetsOk, framedOk, stride, slotSize, tableEnd, slotsEnd, endOf}
 
 pub record InRange (g : Geometry) : Type 0 where
   pub d-low : 2 ≤ g .d
@@ -23,15 +25,18 @@ pub record InRange (g : Geometry) : Type 0 where
   pub m-low : 1 ≤ g .m
   pub m-high : g .m ≤ 256
 
+-- the table ends before the slots, and these before the media
 pub record Placed (g : Geometry) : Type 0 where
   pub ranges : InRange g
-  pub table-is : g .table ≡ 32
-  pub slots-is : g .slots ≡ tableEnd g
-  pub media-is : g .media ≡ slotsEnd g
+  pub header-ends : 32 ≤ g .table
+  pub table-ends : g .table + stride g * g .d ≤ g .slots
+  pub slots-end : g .slots + g .s * slotSize g ≤ g .media
+  pub media-low : g .media < 4294967296
 
+-- and the media end within the image
 pub record Framed (s : List ℕ) (g : Geometry) : Type 0 where
   pub placed : Placed g
-  pub length-is : length s ≡ endOf g
+  pub media-end : endOf g ≤ length s
 
 pub in-range : (g : Geometry) → rangesOk g ≡ true → InRange g
 unfolding rangesOk
@@ -49,28 +54,6 @@ in-range g e =
       m-high = leb-true _ _ (holds _ 9 e);
     }
 
-pub placed : (g : Geometry) → rangesOk g ≡ true → offsetsOk g ≡ true → Placed g
-unfolding offsetsOk
-placed g r e =
-    record {
-      ranges = in-range g r;
-      table-is = eqb-true _ _ (holds _ 0 e);
-      slots-is = eqb-true _ _ (holds _ 1 e);
-      media-is = eqb-true _ _ (holds _ 2 e);
-    }
-
-pub framed-long : (s : List ℕ) → framedOk s ≡ true → 32 ≤ length s
-unfolding framedOk
-framed-long s e = leb-true _ _ (holds _ 0 e)
-
-pub framed : (s : List ℕ) → framedOk s ≡ true → Framed s (geometryOf s)
-unfolding framedOk
-framed s e = record { placed = placed (geometryOf s) (holds _ 1 e) (holds _ 2 e); length-is = eqb-true _ _ (holds _ 3 e) }
-
--- an image of the same length is framed too
-pub framed-same : (s s′ : List ℕ) (g : Geometry) → Framed s g → length s′ ≡ length s → Framed s′ g
-framed-same s s′ g f e = record { placed = f .placed; length-is = e ∙ f .length-is }
-
 -- ---- the products are small
 module _ (g : Geometry) (r : InRange g) where
   pub slot-small : g .m * g .l ≤ 1048576
@@ -84,3 +67,41 @@ module _ (g : Geometry) (r : InRange g) where
 
   pub media-small : g .d * g .b * g .l ≤ 8589934592
   media-small = mul-le-mul blocks-small (r .l-high)
+
+-- ---- what the tests say
+
+pub placed : (g : Geometry) → rangesOk g ≡ true → offsetsOk g ≡ true → Placed g
+unfolding offsetsOk
+placed g r e =
+    let ranges = in-range g r in
+    let table : g .table ≡ 32 = eqb-true _ _ (holds _ 0 e) in
+    let slots : g .slots ≡ tableEnd g = eqb-true _ _ (holds _ 1 e) in
+    let media : g .media ≡ slotsEnd g = eqb-true _ _ (holds _ 2 e) in
+    record { ranges = ranges; header-ends = omega arith; table-ends = omega arith; slots-end = omega arith; media-low = omega (arith, slots-small g ranges) }
+
+pub framed-long : (s : List ℕ) → framedOk s ≡ true → 32 ≤ length s
+unfolding framedOk
+framed-long s e = leb-true _ _ (holds _ 0 e)
+
+-- nothing lies behind the media
+pub framed-exact : (s : List ℕ) → framedOk s ≡ true → length s ≡ endOf (geometryOf s)
+unfolding framedOk
+framed-exact s e = eqb-true _ _ (holds _ 3 e)
+
+pub framed : (s : List ℕ) → framedOk s ≡ true → Framed s (geometryOf s)
+unfolding framedOk
+framed s e =
+    record { placed = placed (geometryOf s) (holds _ 1 e) (holds _ 2 e); media-end = let n : length s ≡ endOf (geometryOf s) = framed-exact s e in omega arith }
+
+-- an image of the same length is framed too
+pub framed-same : (s s′ : List ℕ) (g : Geometry) → Framed s g → length s′ ≡ length s → Framed s′ g
+framed-same s s′ g f e = record { placed = f .placed; media-end = omega arith }
+
+-- what must hold of the header and of the length, taken together
+pub header-ok : (m : List ℕ) → every (tests (headerMusts m)) ≡ framedOk m
+unfolding framedOk rangesOk offsetsOk every
+header-ok m =
+    let g = geometryOf m in
+    let end : List (Must Spot) = must Length (eqb (length m) (endOf g)) ∷ [] in
+    ap (λ (b : Bool). cond (leb 32 (length m)) b false)
+    (every-both (rangeMusts g) (offsetMusts g ++ end) ∙ ap (λ (b : Bool). cond (rangesOk g) b false) (every-both (offsetMusts g) end))

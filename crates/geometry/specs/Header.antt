@@ -1,12 +1,13 @@
 -- 01, "The image: counts, then offsets". All numbers are big-endian.
 use Prim.Native.Nat.{ℕ, _+_, _*_, _%_}
-use mathlib.Core.List.{List, [], _∷_}
+use mathlib.Core.List.{List, [], _∷_, _++_}
 use mathlib.Core.Bool.{Bool}
 use lib.ListN.{length}
 use lib.Dec.{leb, eqb}
 use Rattle.octets.specs.Part.{part}
 use Rattle.octets.specs.Number.{be}
 use Rattle.folds.specs.Every.{every}
+use Rattle.rules.specs.Must.{Must, must, tests}
 use Rattle.geometry.specs.declared.Geometry.{Geometry}
 
 -- "The header is eight 4-byte fields": D, B, L, S, M, "then the offsets of the drive table, slots and media"
@@ -23,22 +24,29 @@ geometryOf m =
       media = be 4 m 28;
     }
 
+-- where it is seen that an image is not valid: at its length, or at the first byte of a field
+pub data Spot : Type 0 where
+  Length : Spot
+  Byte : ℕ → Spot
+
 -- "drives D (2 to 32), blocks per drive B (1 to 65,536), block length L (4 to 4,096, a multiple of 4), slots S (0 to 16), slot size M
 -- in blocks (1 to 256)"
+abbrev pub rangeMusts : Geometry → List (Must Spot)
+rangeMusts g =
+    must (Byte 0) (leb 2 (g .d))
+    ∷ must (Byte 0) (leb (g .d) 32)
+    ∷ must (Byte 4) (leb 1 (g .b))
+    ∷ must (Byte 4) (leb (g .b) 65536)
+    ∷ must (Byte 8) (leb 4 (g .l))
+    ∷ must (Byte 8) (leb (g .l) 4096)
+    ∷ must (Byte 8) (eqb (g .l % 4) 0)
+    ∷ must (Byte 12) (leb (g .s) 16)
+    ∷ must (Byte 16) (leb 1 (g .m))
+    ∷ must (Byte 16) (leb (g .m) 256)
+    ∷ []
+
 unfoldable pub rangesOk : Geometry → Bool
-rangesOk g =
-    every
-    (leb 2 (g .d)
-    ∷ leb (g .d) 32
-    ∷ leb 1 (g .b)
-    ∷ leb (g .b) 65536
-    ∷ leb 4 (g .l)
-    ∷ leb (g .l) 4096
-    ∷ eqb (g .l % 4) 0
-    ∷ leb (g .s) 16
-    ∷ leb 1 (g .m)
-    ∷ leb (g .m) 256
-    ∷ [])
+rangesOk g = every (tests (rangeMusts g))
 
 -- "Drive table at 32: per drive 4 bytes"
 abbrev pub stride : Geometry → ℕ
@@ -55,14 +63,22 @@ tableEnd g = 32 + stride g * g .d
 abbrev pub slotsEnd : Geometry → ℕ
 slotsEnd g = tableEnd g + g .s * slotSize g
 
+abbrev pub offsetMusts : Geometry → List (Must Spot)
+offsetMusts g = must (Byte 20) (eqb (g .table) 32) ∷ must (Byte 24) (eqb (g .slots) (tableEnd g)) ∷ must (Byte 28) (eqb (g .media) (slotsEnd g)) ∷ []
+
 unfoldable pub offsetsOk : Geometry → Bool
-offsetsOk g = every (eqb (g .table) 32 ∷ eqb (g .slots) (tableEnd g) ∷ eqb (g .media) (slotsEnd g) ∷ [])
+offsetsOk g = every (tests (offsetMusts g))
 
 -- "The image ends there, D*B*L bytes on."
 abbrev pub endOf : Geometry → ℕ
 endOf g = g .media + g .d * g .b * g .l
 
--- the header is right, and the image as long as it says
+-- an image has a header, the header is right, and the image as long as it says
+abbrev pub headerMusts : List ℕ → List (Must Spot)
+headerMusts m =
+    must Length (leb 32 (length m))
+    ∷ (rangeMusts (geometryOf m) ++ offsetMusts (geometryOf m) ++ must Length (eqb (length m) (endOf (geometryOf m))) ∷ [])
+
 unfoldable pub framedOk : List ℕ → Bool
 framedOk m =
     every

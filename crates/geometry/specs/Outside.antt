@@ -8,7 +8,7 @@ use Rattle.folds.specs.Cases.{same}
 use Rattle.geometry.specs.declared.Geometry.{Geometry}
 use Rattle.geometry.specs.Header.{slotAt, dataAt}
 use Rattle.geometry.specs.Frame.{Placed}
-use Rattle.geometry.specs.Places.{slots-apart, slot-after-table, slot-before-media, data-ends}
+use Rattle.geometry.specs.Places.{slots-apart, slot-after-front, slot-before-media, data-ends}
 
 -- the n bytes from a on meet no record
 abbrev pub Outside : Geometry → ℕ → ℕ → Type 0
@@ -20,7 +20,7 @@ Away g a n = (a + n ≤ g .slots) ⊎ (g .media ≤ a)
 
 pub outside-away : (g : Geometry) (a n : ℕ) → Placed g → Away g a n → Outside g a n
 outside-away g a n p w i l =
-    ⊎-elim (λ h. inl (omega (arith, slot-after-table g i p, p .slots-is))) (λ h. inr (omega (arith, slot-before-media g i p l))) w
+    ⊎-elim (λ h. inl (omega (arith, slot-after-front g i))) (λ h. inr (omega (arith, slot-before-media g i p l))) w
 
 -- n blocks at the front of slot i's data
 pub outside-data : (g : Geometry) (i n : ℕ) → n ≤ g .m → Outside g (dataAt g i) (n * g .l)

@@ -9,7 +9,7 @@ use lib.ListN.{length}
 use Rattle.octets.specs.Part.{length-part, Apart}
 use Rattle.folds.specs.Cases.{apart}
 use Rattle.geometry.specs.declared.Geometry.{Geometry}
-use Rattle.geometry.specs.Header.{slotSize, tableEnd, endOf, slotAt, dataAt, place, blocksAt}
+use Rattle.geometry.specs.Header.{slotSize, endOf, slotAt, dataAt, place, blocksAt}
 use Rattle.geometry.specs.Frame.{InRange, Placed, Framed, slots-small, media-small, blocks-small}
 
 -- ---- slots
@@ -23,16 +23,19 @@ slot-before g i j l = omega (arith, mul-le-mul-right (slotSize g) l, suc-mul i (
 pub slots-apart : (g : Geometry) (i j : ℕ) → (i ≡ j → ⊥) → Apart (slotAt g i) (slotAt g j) (slotSize g)
 slots-apart g i j ne = ⊎-elim (λ l. inl (slot-before g i j l)) (λ l. inr (slot-before g j i l)) (apart i j ne)
 
-pub slot-after-table : (g : Geometry) (i : ℕ) → Placed g → tableEnd g ≤ slotAt g i
+pub slot-after-front : (g : Geometry) (i : ℕ) → g .slots ≤ slotAt g i
 unfolding slotAt
-slot-after-table g i p = omega (arith, p .slots-is)
+slot-after-front g i = omega arith
+
+pub slot-inside : (g : Geometry) (i : ℕ) → i < g .s → slotAt g i + slotSize g ≤ g .slots + g .s * slotSize g
+unfolding slotAt
+slot-inside g i l = omega (arith, mul-le-mul-right (slotSize g) l, suc-mul i (slotSize g))
 
 pub slot-before-media : (g : Geometry) (i : ℕ) → Placed g → i < g .s → slotAt g i + slotSize g ≤ g .media
-unfolding slotAt
-slot-before-media g i p l = omega (arith, mul-le-mul-right (slotSize g) l, suc-mul i (slotSize g), p .slots-is, p .media-is)
+slot-before-media g i p l = omega (arith, slot-inside g i l)
 
 pub slot-room : (s : List ℕ) (g : Geometry) (i : ℕ) → Framed s g → i < g .s → slotAt g i + slotSize g ≤ length s
-slot-room s g i f l = omega (arith, slot-before-media g i (f .placed) l, f .length-is)
+slot-room s g i f l = omega (arith, slot-before-media g i (f .placed) l, f .media-end)
 
 -- how far a slot's offset can be
 pub slot-offset : (g : Geometry) (i : ℕ) → InRange g → i < g .s → i * slotSize g ≤ 16777472
@@ -105,7 +108,7 @@ module _ (g : Geometry) where
       ⊎-elim (λ l. inl (place-before d e b b′ n l (h .range-in))) (λ l. inr (place-before e d b′ b n l (k .range-in))) (apart d e ne)
 
 pub range-room : (s : List ℕ) (g : Geometry) (d b n : ℕ) → Framed s g → Range g d b n → place g d b + n * g .l ≤ length s
-range-room s g d b n f h = omega (arith, place-ends g d b n h, f .length-is)
+range-room s g d b n f h = omega (arith, place-ends g d b n h, f .media-end)
 
 pub range-long : (s : List ℕ) (g : Geometry) (d b n : ℕ) → Framed s g → Range g d b n → length (blocksAt s g d b n) ≡ n * g .l
 range-long s g d b n f h = length-part s (place g d b) (n * g .l) (range-room s g d b n f h)

@@ -4,18 +4,21 @@ use Prim.Native.Nat.{ℕ}
 use mathlib.Core.List.{List, [], _∷_, _++_}
 use mathlib.Core.Bool.{true, false}
 use mathlib.Core.Path.{_≡_, refl}
-use lib.ListN.{set, take, replicate}
+use mathlib.Core.Option.{Option, some, none}
+use lib.ListN.{set, take, drop, replicate}
 use Rattle.octets.specs.Part.{part}
 use Rattle.octets.specs.Number.{num}
 use Rattle.folds.specs.Every.{every}
 use Rattle.folds.specs.All.{allBelow}
 use Rattle.folds.specs.Count.{countBelow}
+use Rattle.rules.specs.Rule.{first}
+use Rattle.rules.specs.Must.{broken}
 use Rattle.geometry.specs.declared.Geometry.{Geometry}
-use Rattle.geometry.specs.Header.{rangesOk, offsetsOk, framedOk, slotAt}
-use Rattle.drives.specs.Table.{statesOk, newAddress, addressesOk, tableOk}
+use Rattle.geometry.specs.Header.{Spot, Length, Byte, rangesOk, offsetsOk, framedOk, slotAt}
+use Rattle.drives.specs.Table.{tableOk}
 use Rattle.slots.specs.Record.{slotOf}
-use Rattle.slots.specs.Slots.{slotOk, eachOk, ranksOk, slotsOk}
-use Rattle.image.specs.Valid.{validImage}
+use Rattle.slots.specs.Slots.{slotsOk}
+use Rattle.image.specs.Valid.{imageMusts, validImage}
 use Rattle.image.specs.Shelf.{Shelf, shelf-valid}
 
 abbrev pub four : ℕ → ℕ → ℕ → ℕ → List ℕ
@@ -66,7 +69,7 @@ abbrev pub benchShape : Geometry
 benchShape = record { d = 3; b = 2; l = 4; s = 1; m = 2; table = 32; slots = 44; media = 68 }
 
 pub bench-shelf : Shelf bench benchShape
-unfolding framedOk rangesOk offsetsOk tableOk statesOk newAddress addressesOk slotsOk eachOk ranksOk slotOk slotOf slotAt every allBelow countBelow part num
+unfolding framedOk rangesOk offsetsOk tableOk slotsOk slotOf slotAt every allBelow countBelow part num
 bench-shelf = record { header = refl; framed-ok = refl; table-ok = refl; slots-ok = refl }
 
 pub bench-valid : validImage bench ≡ true
@@ -78,5 +81,33 @@ pub spoilt-not :
     × (validImage (set bench 36 2) ≡ false)
     × (validImage (set bench 27 45) ≡ false)
     × (validImage (take 91 bench) ≡ false)
-unfolding validImage framedOk rangesOk offsetsOk tableOk statesOk newAddress addressesOk slotsOk eachOk ranksOk slotOk slotOf slotAt every allBelow countBelow part num
+unfolding validImage slotOf slotAt every allBelow countBelow part num
 spoilt-not = (refl, refl, refl, refl)
+
+-- where it is seen first that an image is not valid
+abbrev seen : List ℕ → Option Spot
+seen m = first (λ n w a. some w) (broken (imageMusts m)) none
+
+-- the bench shelf with two slots
+abbrev twoSlots : List ℕ → List ℕ → List ℕ
+twoSlots a b = take 44 (set (set bench 15 2) 31 92) ++ a ++ b ++ drop 68 bench
+
+-- the bench shelf; 31 bytes; 40 bytes with D = 1; D = 4, S = 2 and B = 3, each by itself
+-- a rank without a kind; a used slot of rank 0; ranks 2 and 1, the second of kind 5; two of rank 1
+-- an address that repeats; a state of 2 before it, and behind it
+pub seen-first :
+    (seen bench ≡ none)
+    × (seen (take 31 bench) ≡ some Length)
+    × (seen (take 40 (set bench 3 1)) ≡ some (Byte 0))
+    × (seen (set bench 3 4) ≡ some (Byte 24))
+    × (seen (set bench 15 2) ≡ some (Byte 28))
+    × (seen (set bench 7 3) ≡ some Length)
+    × (seen (set bench 47 1) ≡ some (Byte 44))
+    × (seen (set afterC2 47 0) ≡ some (Byte 44))
+    × (seen (twoSlots (set (holding 1 0 zeros) 3 2) (holding 5 0 zeros)) ≡ some (Byte 72))
+    × (seen (twoSlots (holding 1 0 zeros) (holding 1 0 zeros)) ≡ some (Byte 68))
+    × (seen (set bench 39 1) ≡ some (Byte 37))
+    × (seen (set (set bench 36 2) 43 1) ≡ some (Byte 36))
+    × (seen (set (set bench 39 1) 40 2) ≡ some (Byte 37))
+unfolding slotOf slotAt every allBelow countBelow part num
+seen-first = (refl, refl, refl, refl, refl, refl, refl, refl, refl, refl, refl, refl, refl)

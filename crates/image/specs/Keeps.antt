@@ -51,7 +51,7 @@ module _ (s : List ℕ) (g : Geometry) (h : Shelf s g) where
   pub shelf-written : (at : ℕ) (ys : List ℕ) → g .media ≤ at → Shelf (put s at ys) g
   shelf-written at ys l =
       let p = shelf-frame s g h .placed in
-      shelf-kept s (put s at ys) g h (length-put s at ys) (front-put s g at ys (omega (arith, p .slots-is, p .media-is)))
+      shelf-kept s (put s at ys) g h (length-put s at ys) (front-put s g at ys (omega arith))
       (kept-ok s (put s at ys) g p (put-outside s g at ys p (inr l)) ∙ h .slots-ok)
 
   -- a drive is marked

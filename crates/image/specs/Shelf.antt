@@ -1,18 +1,22 @@
 -- What a valid image's tests say, by name, and what keeps an image valid.
-use mathlib.Core.Path.{_≡_, refl, sym, ap, subst, _∙_}
-use mathlib.Core.List.{List}
-use mathlib.Core.Bool.{true}
+use mathlib.Core.Path.{_≡_, refl, sym, ap, ap₂, subst, _∙_}
+use mathlib.Core.List.{List, [], _∷_, _++_}
+use mathlib.Core.Bool.{Bool, true, false, cond}
 use Prim.Native.Nat.{ℕ, _≤_}
 use lib.ListN.{length}
-use Rattle.folds.specs.Every.{holds, every-of}
+use Rattle.folds.specs.Every.{every, holds, every-of}
+use Rattle.folds.specs.All.{all-ext}
+use Rattle.folds.specs.Tests.{cond-self}
+use Rattle.rules.specs.Must.{tests, eachBelow, none-broken, every-either, every-both, every-below}
 use Rattle.geometry.specs.declared.Geometry.{Geometry}
-use Rattle.geometry.specs.Header.{geometryOf, framedOk}
-use Rattle.geometry.specs.Frame.{Framed, framed, framed-long}
+use Rattle.geometry.specs.Header.{geometryOf, headerMusts, framedOk}
+use Rattle.geometry.specs.Frame.{Framed, framed, framed-long, header-ok}
 use Rattle.geometry.specs.Kept.{framed-alike}
-use Rattle.drives.specs.Table.{tableOk}
+use Rattle.drives.specs.Table.{entryMusts, tableOk}
 use Rattle.drives.specs.Front.{SameFront, table-same, geometry-same}
-use Rattle.slots.specs.Slots.{slotsOk}
-use Rattle.image.specs.Valid.{validImage}
+use Rattle.slots.specs.Record.{slotOf, isUsed}
+use Rattle.slots.specs.Slots.{slotOk, usedCount, newRank, slotMusts, slotsOk}
+use Rattle.image.specs.Valid.{imageMusts, validImage}
 
 -- m is a valid image with geometry g
 pub record Shelf (m : List ℕ) (g : Geometry) : Type 0 where
@@ -21,14 +25,30 @@ pub record Shelf (m : List ℕ) (g : Geometry) : Type 0 where
   pub table-ok : tableOk m g ≡ true
   pub slots-ok : slotsOk m g ≡ true
 
+-- no rule applies where the three groups of tests hold, as the code makes them
+pub valid-is : (m : List ℕ) → validImage m ≡ every (framedOk m ∷ tableOk m (geometryOf m) ∷ slotsOk m (geometryOf m) ∷ [])
+unfolding validImage tableOk slotsOk every
+valid-is m =
+    let g = geometryOf m in
+    let table = eachBelow (g .d) (entryMusts m g) in
+    let slots = eachBelow (g .s) (slotMusts m g) in
+    let both : Bool → Bool → Bool = (λ a b. cond a b false) in
+    none-broken (imageMusts m)
+    ∙ every-both (headerMusts m) (table ++ slots)
+    ∙ ap₂ both (header-ok m)
+    (every-both table slots
+    ∙ ap₂ both (every-below (g .d) (entryMusts m g))
+    (every-below (g .s) (slotMusts m g)
+    ∙ all-ext (λ i. every (tests (slotMusts m g i))) (λ i. slotOk g (usedCount m g) (newRank (slotOf m g) i) (slotOf m g i)) (g .s) (λ i l. every-either (isUsed (slotOf m g i)) _ _)
+    ∙ sym (cond-self (slotsOk m g))))
+
 pub shelf : (m : List ℕ) → validImage m ≡ true → Shelf m (geometryOf m)
-unfolding validImage
-shelf m e = record { header = refl; framed-ok = holds _ 0 e; table-ok = holds _ 1 e; slots-ok = holds _ 2 e }
+shelf m v = let e = sym (valid-is m) ∙ v in record { header = refl; framed-ok = holds _ 0 e; table-ok = holds _ 1 e; slots-ok = holds _ 2 e }
 
 pub shelf-valid : (m : List ℕ) (g : Geometry) → Shelf m g → validImage m ≡ true
-unfolding validImage
 shelf-valid m g h =
-    every-of _ (
+    valid-is m
+    ∙ every-of _ (
       h .framed-ok,
       (ap (tableOk m) (h .header) ∙ h .table-ok, (ap (slotsOk m) (h .header) ∙ h .slots-ok, tt)),
     )

@@ -8,3 +8,4 @@ pub mod Operands
 pub mod Octets
 pub mod Number
 pub mod Four
+pub mod New

@@ -9,6 +9,7 @@ pub use number::be2;
 pub use number::be3;
 pub use number::be4;
 pub use number::byte;
+pub use number::keep_new;
 pub use number::put_be4;
 pub use number::to_be4;
 ghost use mathlib.Core.Path.{_≡_};

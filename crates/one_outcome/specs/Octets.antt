@@ -1,7 +1,7 @@
 -- The contract of each public function of `octets` allows one outcome only.
 use denote.Ref.{now}
 use Rattle.octets.proofs as octets
-use Rattle.one_outcome.specs.Only.{Only, equation, bounded}
+use Rattle.one_outcome.specs.Only.{Only, _&_, _and_, from, equation, bounded}
 
 pub xor-into-once : Only octets.xor_into.Reads.Post (λ _ _ s. now (s .0))
 xor-into-once = equation
@@ -44,6 +44,9 @@ be3-once = bounded
 
 pub be4-once : Only octets.be4.Reads.Post (λ _ r _. r)
 be4-once = bounded
+
+pub keep-new-once : Only octets.keep_new.Reads.Post (λ _ r s. r & now (s .0))
+keep-new-once = from (λ κs a r s p. p .0 and p .1)
 
 pub put-be4-once : Only octets.put_be4.Reads.Post (λ _ _ s. now (s .0))
 put-be4-once = equation

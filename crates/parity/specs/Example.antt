@@ -19,10 +19,9 @@ use Rattle.folds.specs.Each.{EachIs, each-mem}
 use Rattle.folds.specs.Same.{sameList}
 use Rattle.folds.specs.Count.{countBelow}
 use Rattle.folds.specs.Least.{leastBelow}
-use Rattle.geometry.specs.Header.{rangesOk, offsetsOk, framedOk, slotAt, place}
-use Rattle.drives.specs.Table.{statesOk, newAddress, addressesOk, tableOk, driveOf, to, marked}
+use Rattle.geometry.specs.Header.{slotAt, place}
+use Rattle.drives.specs.Table.{driveOf, to, marked}
 use Rattle.slots.specs.Record.{slotOf, bytesOf}
-use Rattle.slots.specs.Slots.{slotOk, eachOk, ranksOk, slotsOk}
 use Rattle.slots.specs.Find.{emptySlot, better, bestOf, newestOf}
 use Rattle.slots.specs.Change.{released, lowerOne, lowered, dropped, droppedTo, dropOne}
 use Rattle.results.specs.Lists.{keeping}
@@ -95,7 +94,7 @@ pub run-computed :
     × (ledger losing bench ≡ lostLedger)
     × (rowSum lostImage benchShape 0 ≡ fresh)
     × (owed benchShape 0 lostLedger ≡ fresh)
-unfolding decideOf stepImage resetImage markImage validImage framedOk rangesOk offsetsOk tableOk statesOk newAddress addressesOk slotsOk eachOk ranksOk slotOk slotOf slotAt place every allBelow sameList countBelow leastBelow driveOf emptySlot newestOf bestOf better released lowered lowerOne dropped droppedTo dropOne marked bytesOf part put num toBe _⊻_ xorAll opOf sixteenOf tenOf rowSum summedTo counts owed keeping share
+unfolding decideOf stepImage resetImage markImage validImage slotOf slotAt place every allBelow sameList countBelow leastBelow driveOf emptySlot newestOf bestOf better released lowered lowerOne dropped droppedTo dropOne marked bytesOf part put num toBe _⊻_ xorAll opOf sixteenOf tenOf rowSum summedTo counts owed keeping share
 run-computed = (refl, refl, refl, refl, refl, refl)
 
 -- block 0 of drive 3, and bytes to it by XPWRITE, C1h or 51h
@@ -124,7 +123,7 @@ carried = carries 0 result (line (ofFirst result) true Read ∷ []) (List·Mem�
 
 -- it is a run of the demand
 pub losing-fair : Fair losing bench
-unfolding decideOf stepImage resetImage markImage validImage framedOk rangesOk offsetsOk tableOk statesOk newAddress addressesOk slotsOk eachOk ranksOk slotOk slotOf slotAt place every allBelow sameList countBelow leastBelow driveOf emptySlot newestOf bestOf better released lowered lowerOne dropped droppedTo dropOne marked bytesOf part put num toBe _⊻_ xorAll opOf sixteenOf tenOf
+unfolding decideOf stepImage resetImage markImage validImage slotOf slotAt place every allBelow sameList countBelow leastBelow driveOf emptySlot newestOf bestOf better released lowered lowerOne dropped droppedTo dropOne marked bytesOf part put num toBe _⊻_ xorAll opOf sixteenOf tenOf
 losing-fair =
     ((λ e. refl), (tt, (tt, (tt, (tt, (carried, ((refl, refl), ((λ e. refl), (tt, tt)))))))))
 
@@ -215,5 +214,5 @@ one-row =
 pub rebuilt-computed :
     (rebuilt theStep paidImage benchShape 1 0 junk (0 ∷ 2 ∷ []) 2 0xFFFFFFFF room ≡ done paidImage Good)
     × (rebuilt theStep lostImage benchShape 1 1 zeros (2 ∷ 0 ∷ []) 0 1 room ≡ done lostImage Good)
-unfolding cdbOf decideOf stepImage stepOutcome validImage framedOk rangesOk offsetsOk tableOk statesOk newAddress addressesOk slotsOk eachOk ranksOk slotOk slotOf slotAt place every allBelow countBelow leastBelow driveOf part put num toBe _⊻_ xorAll sourcesFrom gathered opOf listedOf ownOf resolvedOf listBytes sourceOf ownEntry driveBad entryBad firstBad
+unfolding cdbOf decideOf stepImage stepOutcome validImage slotOf slotAt place every allBelow countBelow leastBelow driveOf part put num toBe _⊻_ xorAll sourcesFrom gathered opOf listedOf ownOf resolvedOf listBytes sourceOf ownEntry driveBad entryBad firstBad
 rebuilt-computed = (refl, refl)

@@ -12,10 +12,9 @@ use Rattle.folds.specs.All.{allBelow}
 use Rattle.folds.specs.Same.{sameList}
 use Rattle.folds.specs.Count.{countBelow}
 use Rattle.folds.specs.Least.{leastBelow}
-use Rattle.geometry.specs.Header.{rangesOk, offsetsOk, framedOk, slotAt, place}
-use Rattle.drives.specs.Table.{statesOk, newAddress, addressesOk, tableOk, driveOf, to}
+use Rattle.geometry.specs.Header.{slotAt, place}
+use Rattle.drives.specs.Table.{driveOf, to}
 use Rattle.slots.specs.Record.{slotOf, bytesOf}
-use Rattle.slots.specs.Slots.{slotOk, eachOk, ranksOk, slotsOk}
 use Rattle.slots.specs.Find.{emptySlot, better, bestOf, newestOf}
 use Rattle.slots.specs.Change.{released, lowerOne, lowered}
 use Rattle.results.specs.Lists.{keeping}
@@ -57,15 +56,15 @@ pub twice-computed :
     × (rowSum (afterCalls (twice ++ carry ∷ []) bench) benchShape 0 ≡ result)
     × (ledger (twice ++ carry ∷ carry ∷ []) bench ≡ pair Carried Carried)
     × (rowSum (afterCalls (twice ++ carry ∷ carry ∷ []) bench) benchShape 0 ≡ zeros)
-unfolding decideOf stepImage validImage framedOk rangesOk offsetsOk tableOk statesOk newAddress addressesOk slotsOk eachOk ranksOk slotOk slotOf slotAt place every allBelow sameList countBelow leastBelow driveOf emptySlot newestOf bestOf better released lowered lowerOne bytesOf part put num toBe _⊻_ xorAll opOf sixteenOf tenOf rowSum summedTo counts owed keeping share
+unfolding decideOf stepImage validImage slotOf slotAt place every allBelow sameList countBelow leastBelow driveOf emptySlot newestOf bestOf better released lowered lowerOne bytesOf part put num toBe _⊻_ xorAll opOf sixteenOf tenOf rowSum summedTo counts owed keeping share
 twice-computed = (refl, refl, refl, refl, refl, refl, refl)
 
 pub twice-fair : Fair (twice ++ carry ∷ carry ∷ []) bench
-unfolding decideOf stepImage validImage framedOk rangesOk offsetsOk tableOk statesOk newAddress addressesOk slotsOk eachOk ranksOk slotOk slotOf slotAt place every allBelow sameList countBelow leastBelow driveOf emptySlot newestOf bestOf better released lowered lowerOne bytesOf part put num toBe _⊻_ xorAll opOf sixteenOf tenOf
+unfolding decideOf stepImage validImage slotOf slotAt place every allBelow sameList countBelow leastBelow driveOf emptySlot newestOf bestOf better released lowered lowerOne bytesOf part put num toBe _⊻_ xorAll opOf sixteenOf tenOf
 twice-fair =
     ((λ e. refl), (tt, ((λ e. refl), (tt, (carries 0 result (pair Read Read) (List·Memᴰ·head refl), (carries 0 result (pair Carried Read) (List·Memᴰ·tail (List·Memᴰ·head refl)), tt))))))
 
 -- a third time there is nothing to carry
 pub thrice-not : Fair (twice ++ carry ∷ carry ∷ carry ∷ []) bench → ⊥
-unfolding decideOf stepImage validImage framedOk rangesOk offsetsOk tableOk statesOk newAddress addressesOk slotsOk eachOk ranksOk slotOk slotOf slotAt place every allBelow sameList countBelow leastBelow driveOf emptySlot newestOf bestOf better released lowered lowerOne bytesOf part put num toBe _⊻_ xorAll opOf sixteenOf tenOf
+unfolding decideOf stepImage validImage slotOf slotAt place every allBelow sameList countBelow leastBelow driveOf emptySlot newestOf bestOf better released lowered lowerOne bytesOf part put num toBe _⊻_ xorAll opOf sixteenOf tenOf
 thrice-not f = carries-none third result (pair Carried Carried) (refl, (refl, tt)) (f .1 .1 .1 .1 .1 .1 .0)

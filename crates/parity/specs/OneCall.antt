@@ -107,7 +107,7 @@ module _ (m : List ℕ) (g : Geometry) (h : Shelf m g) (es : List Line) where
   mark-sum i state l r lr =
       ap (λ (o : List ℕ). o ⊻ owed g r es)
       (sum-same m (marked m g i state) g r (marked-counts m g i state)
-      (λ d ld. part-marked m g i state p l (place g d r) (g .l) (omega (arith, place-after-media g d r, p .slots-is, p .media-is))))
+      (λ d ld. part-marked m g i state p l (place g d r) (g .l) (omega (arith, place-after-media g d r, p .slots-end))))
 
   pub marks-tallies : (a : Came) (state : ℕ) → Tallies g m es → Tallies g (markImage m a state) es
   unfolding markImage

@@ -15,10 +15,9 @@ use Rattle.folds.specs.All.{allBelow}
 use Rattle.folds.specs.Same.{sameList}
 use Rattle.folds.specs.Count.{countBelow}
 use Rattle.folds.specs.Least.{leastBelow}
-use Rattle.geometry.specs.Header.{rangesOk, offsetsOk, framedOk, slotAt, place}
-use Rattle.drives.specs.Table.{statesOk, newAddress, addressesOk, tableOk, driveOf, to}
+use Rattle.geometry.specs.Header.{slotAt, place}
+use Rattle.drives.specs.Table.{driveOf, to}
 use Rattle.slots.specs.Record.{slotOf, bytesOf}
-use Rattle.slots.specs.Slots.{slotOk, eachOk, ranksOk, slotsOk}
 use Rattle.slots.specs.Find.{emptySlot, better, bestOf, newestOf}
 use Rattle.slots.specs.Change.{released, lowerOne, lowered}
 use Rattle.results.specs.Lists.{keeping}
@@ -85,12 +84,12 @@ pub published-computed :
     × (rowSum (afterCalls owing bench) benchShape 0 ≡ fresh)
     × (ledger (owing ++ carryBy 0xC1 fresh ∷ []) bench ≡ owingLedger Carried)
     × (rowSum (afterCalls (owing ++ carryBy 0xC1 fresh ∷ []) bench) benchShape 0 ≡ zeros)
-unfolding decideOf stepImage validImage framedOk rangesOk offsetsOk tableOk statesOk newAddress addressesOk slotsOk eachOk ranksOk slotOk slotOf slotAt place every allBelow sameList countBelow leastBelow driveOf emptySlot newestOf bestOf better released lowered lowerOne bytesOf part put num toBe _⊻_ xorAll opOf tenOf rowSum summedTo counts owed keeping share
+unfolding decideOf stepImage validImage slotOf slotAt place every allBelow sameList countBelow leastBelow driveOf emptySlot newestOf bestOf better released lowered lowerOne bytesOf part put num toBe _⊻_ xorAll opOf tenOf rowSum summedTo counts owed keeping share
 published-computed = (refl, refl, refl, refl, refl, refl, refl, refl, refl, refl, refl, refl)
 
 -- it is a run of the demand
 pub owing-fair : Fair (owing ++ carryBy 0xC1 fresh ∷ []) bench
-unfolding decideOf stepImage validImage framedOk rangesOk offsetsOk tableOk statesOk newAddress addressesOk slotsOk eachOk ranksOk slotOk slotOf slotAt place every allBelow sameList countBelow leastBelow driveOf emptySlot newestOf bestOf better released lowered lowerOne bytesOf part put num toBe _⊻_ xorAll opOf tenOf
+unfolding decideOf stepImage validImage slotOf slotAt place every allBelow sameList countBelow leastBelow driveOf emptySlot newestOf bestOf better released lowered lowerOne bytesOf part put num toBe _⊻_ xorAll opOf tenOf
 owing-fair =
     let kept = carries 1 change (line (resultOn 1 change) true Read ∷ line (ofFirst result) true Carried ∷ []) (List·Memᴰ·head refl) in
     let last = carries 0 fresh (owingLedger Read) (List·Memᴰ·head refl) in
@@ -116,15 +115,15 @@ settling-restored = rebuild-restores bench benchShape settling 1 0 2 junk (0 ∷
 
 -- the result of a 53h that did not write
 pub unwritten-not : Fair (settling ++ carryBy 0x51 fresh ∷ []) bench → ⊥
-unfolding decideOf stepImage validImage framedOk rangesOk offsetsOk tableOk statesOk newAddress addressesOk slotsOk eachOk ranksOk slotOk slotOf slotAt place every allBelow sameList countBelow leastBelow driveOf emptySlot newestOf bestOf better released lowered lowerOne bytesOf part put num toBe _⊻_ xorAll opOf tenOf
+unfolding decideOf stepImage validImage slotOf slotAt place every allBelow sameList countBelow leastBelow driveOf emptySlot newestOf bestOf better released lowered lowerOne bytesOf part put num toBe _⊻_ xorAll opOf tenOf
 unwritten-not f = carries-none third fresh settledLedger (refl, (refl, (refl, tt))) (f .1 .1 .1 .1 .1 .1 .0)
 
 -- other bytes than the 53h handed out
 pub others-not : Fair (owing ++ carryBy 0x51 result ∷ []) bench → ⊥
-unfolding decideOf stepImage validImage framedOk rangesOk offsetsOk tableOk statesOk newAddress addressesOk slotsOk eachOk ranksOk slotOk slotOf slotAt place every allBelow sameList countBelow leastBelow driveOf emptySlot newestOf bestOf better released lowered lowerOne bytesOf part put num toBe _⊻_ xorAll opOf tenOf
+unfolding decideOf stepImage validImage slotOf slotAt place every allBelow sameList countBelow leastBelow driveOf emptySlot newestOf bestOf better released lowered lowerOne bytesOf part put num toBe _⊻_ xorAll opOf tenOf
 others-not f = carries-none third result (owingLedger Read) (refl, (refl, (refl, (refl, tt)))) (f .1 .1 .1 .1 .1 .1 .1 .0)
 
 -- its bytes a second time, by the other code
 pub again-not : Fair (owing ++ carryBy 0xC1 fresh ∷ carryBy 0x51 fresh ∷ []) bench → ⊥
-unfolding decideOf stepImage validImage framedOk rangesOk offsetsOk tableOk statesOk newAddress addressesOk slotsOk eachOk ranksOk slotOk slotOf slotAt place every allBelow sameList countBelow leastBelow driveOf emptySlot newestOf bestOf better released lowered lowerOne bytesOf part put num toBe _⊻_ xorAll opOf tenOf
+unfolding decideOf stepImage validImage slotOf slotAt place every allBelow sameList countBelow leastBelow driveOf emptySlot newestOf bestOf better released lowered lowerOne bytesOf part put num toBe _⊻_ xorAll opOf tenOf
 again-not f = carries-none third fresh (owingLedger Carried) (refl, (refl, (refl, (refl, tt)))) (f .1 .1 .1 .1 .1 .1 .1 .1 .0)

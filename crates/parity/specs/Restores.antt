@@ -20,7 +20,7 @@ use Rattle.geometry.specs.Frame.{Framed}
 use Rattle.geometry.specs.Places.{Range, place-after-media}
 use Rattle.geometry.specs.Written.{other-drive}
 use Rattle.drives.specs.declared.Came.{Came}
-use Rattle.drives.specs.Table.{addressOf, failed, to, sourceDrive}
+use Rattle.drives.specs.Table.{addressOf, failed, to, sourceDrive, driveOf}
 use Rattle.drives.specs.Facts.{table-addresses}
 use Rattle.drives.specs.Front.{SameFront, front-put, failed-same, drive-same}
 use Rattle.drives.specs.Lookup.{drive-found}
@@ -63,7 +63,7 @@ module _ (m : List ℕ) (g : Geometry) (h : Shelf m g) (up : AllPresent m g) (sm
   each = perm-each (Other (g .d) d) (w .every-other) (others-each (g .d) d)
 
   same-front : SameFront t m g
-  same-front = front-put m g at ys (omega (arith, place-after-media g d b, f .placed .slots-is, f .placed .media-is))
+  same-front = front-put m g at ys (omega (arith, place-after-media g d b, f .placed .slots-end))
 
   how-many : suc (length es) ≡ g .d
   how-many = ap suc (perm-length (w .every-other)) ∙ length-others (g .d) d (w .drive-in)
@@ -77,7 +77,7 @@ module _ (m : List ℕ) (g : Geometry) (h : Shelf m g) (up : AllPresent m g) (sm
   a = to (addressOf m g d)
 
   found : (e : ℕ) → e < g .d → sourceDrive t g a (addressOf m g e) ≡ At e
-  found e l = drive-same t m g (f .placed) same-front (addressOf m g e) ∙ drive-found m g (table-addresses m g (h .table-ok)) e l
+  found e l = drive-same t m g (f .placed) same-front (addressOf m g e) ∙ drive-found m g (h .table-ok) e l
 
   present : (e : ℕ) → e < g .d → failed t g e ≡ false
   present e l = failed-same t m g (f .placed) same-front e l ∙ up e l

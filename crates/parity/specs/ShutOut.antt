@@ -21,9 +21,9 @@ use Rattle.geometry.specs.declared.Geometry.{Geometry}
 use Rattle.geometry.specs.Header.{geometryOf, rangesOk, offsetsOk, framedOk, slotAt, place}
 use Rattle.drives.specs.declared.Came.{Came}
 use Rattle.geometry.specs.Stores.{stored}
-use Rattle.drives.specs.Table.{statesOk, newAddress, addressesOk, tableOk, driveOf, to}
+use Rattle.drives.specs.Table.{driveOf, to, tableOk}
 use Rattle.slots.specs.Record.{slotOf, bytesOf}
-use Rattle.slots.specs.Slots.{slotOk, eachOk, ranksOk, slotsOk}
+use Rattle.slots.specs.Slots.{slotsOk}
 use Rattle.slots.specs.Find.{emptySlot, better, bestOf, newestOf}
 use Rattle.slots.specs.Change.{released, lowerOne, lowered}
 use Rattle.results.specs.Lists.{keeping}
@@ -73,7 +73,7 @@ on-bench : (after : Call → List ℕ → List ℕ) → Whole after bench benchS
 on-bench = at-once bench bench-start (small-octets bench refl) bench-zero (present bench refl refl refl)
 
 spare-start : Start spare benchShape
-unfolding validImage framedOk rangesOk offsetsOk tableOk statesOk newAddress addressesOk slotsOk eachOk ranksOk slotOk slotOf slotAt every allBelow countBelow part num results agesTo slotRanked leastBelow
+unfolding framedOk rangesOk offsetsOk tableOk slotsOk slotOf slotAt every allBelow countBelow part num results agesTo slotRanked leastBelow
 spare-start = record { valid = record { header = refl; framed-ok = refl; table-ok = refl; slots-ok = refl }; nothing-retained = refl }
 
 spare-zero : ZeroSums spare benchShape 0 2
@@ -144,7 +144,7 @@ missing i m a = acting 0xC3 (λ m g s. writing (λ w. xorAll (sansAt i (sourcesF
 
 -- of two, the first or the last
 pub missing-not : (i : ℕ) → i < 2 → Restores (callBy (missing i)) (missing i) → ⊥
-unfolding cdbOf decideOf stepOutcome validImage framedOk rangesOk offsetsOk tableOk statesOk newAddress addressesOk slotsOk eachOk ranksOk slotOk slotOf slotAt place every allBelow countBelow leastBelow driveOf part put num toBe _⊻_ xorAll sourcesFrom gathered opOf listedOf ownOf resolvedOf listBytes sourceOf ownEntry driveBad entryBad firstBad
+unfolding cdbOf decideOf stepOutcome validImage slotOf slotAt place every allBelow countBelow leastBelow driveOf part put num toBe _⊻_ xorAll sourcesFrom gathered opOf listedOf ownOf resolvedOf listBytes sourceOf ownEntry driveBad entryBad firstBad
 missing-not zero l h =
     let x = h bench benchShape [] 1 0 2 junk (0 ∷ 2 ∷ []) 2 0xFFFFFFFF (on-bench (callBy (missing 0))) both-rows room .back in
     let z : _≡_ {A = ℕ} 11 1 = ap (λ (b : List ℕ). getD b 76 0) x in
@@ -160,7 +160,7 @@ abbrev pub counting : AnyStep
 counting = acting 0xC3 (λ m g s. writing (λ w. blocksOf m g (w .blocks) ⊻ w .bytes))
 
 pub counting-not : Restores (callBy counting) counting → ⊥
-unfolding cdbOf decideOf stepOutcome validImage framedOk rangesOk offsetsOk tableOk statesOk newAddress addressesOk slotsOk eachOk ranksOk slotOk slotOf slotAt place every allBelow countBelow leastBelow driveOf part put num toBe _⊻_ xorAll sourcesFrom gathered opOf listedOf ownOf resolvedOf listBytes sourceOf ownEntry driveBad entryBad firstBad
+unfolding cdbOf decideOf stepOutcome validImage slotOf slotAt place every allBelow countBelow leastBelow driveOf part put num toBe _⊻_ xorAll sourcesFrom gathered opOf listedOf ownOf resolvedOf listBytes sourceOf ownEntry driveBad entryBad firstBad
 counting-not h =
     let x = h bench benchShape [] 1 0 2 junk (0 ∷ 2 ∷ []) 2 0xFFFFFFFF (on-bench (callBy counting)) both-rows room .back in
     let z : _≡_ {A = ℕ} 254 1 = ap (λ (l : List ℕ). getD l 76 0) x in
@@ -171,7 +171,7 @@ abbrev pub forgetting : AnyStep
 forgetting = acting 0xC0 (λ m g s e. effect (e .hands) (take 1 (e .writes)) (e .change))
 
 pub forgetting-not : SumsDiffer (callBy forgetting) → ⊥
-unfolding decideOf stepImage stepOutcome validImage framedOk rangesOk offsetsOk tableOk statesOk newAddress addressesOk slotsOk eachOk ranksOk slotOk slotOf slotAt place every allBelow countBelow leastBelow driveOf part put num toBe _⊻_ xorAll opOf sixteenOf tenOf rowSum summedTo counts owed keeping share
+unfolding decideOf stepImage stepOutcome validImage slotOf slotAt place every allBelow countBelow leastBelow driveOf part put num toBe _⊻_ xorAll opOf sixteenOf tenOf rowSum summedTo counts owed keeping share
 forgetting-not h =
     let x = h bench benchShape bench-start (command (to 1) (xdwrite 0x00) fresh room ∷ []) ((refl, refl), tt) 0 (lit≤ tt) in
     let z : _≡_ {A = ℕ} 0xF5 0 = ap (λ (l : List ℕ). getD l 0 0) x in
@@ -182,7 +182,7 @@ abbrev pub storing : AnyStep
 storing = acting 0xC1 (λ m g s. writing (λ w. s))
 
 pub storing-not : SumsDiffer (callBy storing) → ⊥
-unfolding decideOf stepImage stepOutcome validImage framedOk rangesOk offsetsOk tableOk statesOk newAddress addressesOk slotsOk eachOk ranksOk slotOk slotOf slotAt place every allBelow sameList countBelow leastBelow driveOf emptySlot newestOf bestOf better released lowered lowerOne bytesOf part put num toBe _⊻_ xorAll opOf sixteenOf tenOf rowSum summedTo counts owed keeping share
+unfolding decideOf stepImage stepOutcome validImage slotOf slotAt place every allBelow sameList countBelow leastBelow driveOf emptySlot newestOf bestOf better released lowered lowerOne bytesOf part put num toBe _⊻_ xorAll opOf sixteenOf tenOf rowSum summedTo counts owed keeping share
 storing-not h =
     let calls = command (to 1) (xdwrite 0x06) fresh room ∷ command (to 1) (ten 0xC2 0 1) [] room ∷ command (to 3) (ten 0xC1 0 1) result room ∷ [] in
     let x = h bench benchShape bench-start calls ((λ e. refl), (tt, (carried, tt))) 0 (lit≤ tt) in
@@ -195,7 +195,7 @@ heedless d m a c s r = theStep m a (cond (eqb (getD c 0 0) 0x53) (set c 1 (4 * d
 
 -- a sum that changes with nothing owed; one that stays with a result owed
 pub heedless-not : (d : ℕ) → d < 2 → SumsDiffer (callBy (heedless d)) → ⊥
-unfolding decideOf stepImage stepOutcome validImage framedOk rangesOk offsetsOk tableOk statesOk newAddress addressesOk slotsOk eachOk ranksOk slotOk slotOf slotAt place every allBelow countBelow leastBelow driveOf part put num toBe _⊻_ xorAll opOf tenOf rowSum summedTo counts owed keeping share
+unfolding decideOf stepImage stepOutcome validImage slotOf slotAt place every allBelow countBelow leastBelow driveOf part put num toBe _⊻_ xorAll opOf tenOf rowSum summedTo counts owed keeping share
 heedless-not zero l h =
     let x = h bench benchShape bench-start (command (to 1) (tenWith 0x53 0x04 0 1) fresh room ∷ []) (tt, tt) 0 (lit≤ tt) in
     let z : _≡_ {A = ℕ} 0xF5 0 = ap (λ (l : List ℕ). getD l 0 0) x in

@@ -19,7 +19,6 @@ use Rattle.slots.specs.Record.{slotOf}
 use Rattle.slots.specs.Slots.{usedCount, slotsOk}
 use Rattle.slots.specs.Facts.{Used, right}
 use Rattle.slots.specs.Find.{wanted, better, bestOf, newestOf}
-use Rattle.slots.specs.Ranks.{used-at}
 
 -- slot i is wanted, and no wanted slot has a higher rank
 pub record Newest (s : List ℕ) (g : Geometry) (drive block i : ℕ) : Type 0 where
@@ -75,11 +74,11 @@ module _ (s : List ℕ) (g : Geometry) (drive block : ℕ) where
 
   -- a slot with a result's record
   pub newest-used : slotsOk s g ≡ true → (i : ℕ) → Newest s g drive block i → Used g (usedCount s g) (slotOf s g i)
-  newest-used ok i n = used-at g (slotOf s g) (right s g ok) i (n .inside) (holds _ 0 (n .asked))
+  newest-used ok i n = right s g ok .used i (n .inside) (holds _ 0 (n .asked))
 
   pub newest-nothing : slotsOk s g ≡ true → newestOf s g drive block ≡ Nothing → (j : ℕ) → j < g .s → wanted drive block (slotOf s g j) ≡ false
   unfolding newestOf
   newest-nothing ok e j l =
       let h = best-is (g .s) in
-      ⊎-elim (λ w. let u = used-at g (slotOf s g) (right s g ok) j l (holds _ 0 w) in absurd (omega (arith, h .most j l w, h .none e))) (λ w. w)
+      ⊎-elim (λ w. let u = right s g ok .used j l (holds _ 0 w) in absurd (omega (arith, h .most j l w, h .none e))) (λ w. w)
       (either (wanted drive block (slotOf s g j)))

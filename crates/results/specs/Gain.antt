@@ -12,9 +12,9 @@ use Rattle.folds.specs.Count.{count-ext, count-gone, count-just}
 use Rattle.geometry.specs.declared.Geometry.{Geometry}
 use Rattle.slots.specs.declared.Slot.{Slot}
 use Rattle.slots.specs.Record.{isUsed}
-use Rattle.slots.specs.Slots.{slotOk, usedIn, hasRank, rankedIn}
-use Rattle.slots.specs.Facts.{Used, used-ok, Right}
-use Rattle.slots.specs.Ranks.{has-rank, not-rank, used-is, used-at, used-ranked, empty-any}
+use Rattle.slots.specs.Slots.{usedIn, hasRank}
+use Rattle.slots.specs.Facts.{Used, Right}
+use Rattle.slots.specs.Ranks.{has-rank, not-rank, used-is, used-ranked}
 use Rattle.results.specs.Ages.{agesTo, ages}
 use Rattle.results.specs.Ranks.{ranked-only, ranked-same, ages-same, ages-more}
 
@@ -35,16 +35,6 @@ module _ (g : Geometry) (f f′ : ℕ → Slot) (x : ℕ) (h : Right g f) (c : G
       count-gone (λ i. isUsed (f′ i)) (λ i. isUsed (f i)) (g .s) x (c .inside) new-used (c .empty)
       (λ j l ne. ap isUsed (sym (c .rest j l ne)))
 
-  gain-ok : (j : ℕ) → j < g .s → slotOk g (usedIn g f + 1) (f′ j) ≡ true
-  gain-ok j l =
-      let k = usedIn g f in
-      ⊎-elim (λ e. rw e (used-ok g (k + 1) (f′ x) new-used (c .new)))
-      (λ ne. ap (slotOk g (k + 1)) (c .rest j l ne)
-      ∙ ⊎-elim
-      (λ u. let w = used-at g f h j l u in used-ok g (k + 1) (f j) u (used-ranked g k (k + 1) (f j .rank) (f j) w (w .rank-low) (omega arith)))
-      (λ u. empty-any g k (k + 1) (f j) u (h .ok j l)) (either (isUsed (f j))))
-      (same j x)
-
   -- a rank of 1 to k is the slot's that had it
   old-rank : (n : ℕ) → n ≤ usedIn g f → (j : ℕ) → j < g .s → hasRank n (f′ j) ≡ hasRank n (f j)
   old-rank n hn j l =
@@ -57,19 +47,33 @@ module _ (g : Geometry) (f f′ : ℕ → Slot) (x : ℕ) (h : Right g f) (c : G
   new-rank : (j : ℕ) → j < g .s → (j ≡ x → ⊥) → hasRank (usedIn g f + 1) (f′ j) ≡ false
   new-rank j l ne =
       ap (hasRank (usedIn g f + 1)) (c .rest j l ne)
-      ∙ not-rank (usedIn g f + 1) (f j) (λ u e. let w = used-at g f h j l u in omega arith)
+      ∙ not-rank (usedIn g f + 1) (f j) (λ u e. let w = h .used j l u in omega arith)
 
   top-rank : hasRank (usedIn g f + 1) (f′ x) ≡ true
   top-rank = has-rank (usedIn g f + 1) (f′ x) new-used (c .top)
 
-  gain-once : (n : ℕ) → n < usedIn g f + 1 → rankedIn g f′ (n + 1) ≡ 1
-  gain-once n l =
-      ⊎-elim (λ e. rw e (count-just (λ i. hasRank (usedIn g f + 1) (f′ i)) (g .s) x (c .inside) top-rank new-rank))
-      (λ lt. count-ext (λ i. hasRank (n + 1) (f′ i)) (λ i. hasRank (n + 1) (f i)) (g .s) (old-rank (n + 1) (omega arith)) ∙ h .once n lt)
-      (last-or-below (rw add-one at l))
+  -- another that is used
+  old-used : (j : ℕ) → j < g .s → (j ≡ x → ⊥) → isUsed (f′ j) ≡ true → Used g (usedIn g f) (f′ j)
+  old-used j l ne u = let r = c .rest j l ne in rw r (h .used j l (ap isUsed (sym r) ∙ u))
 
   pub gain-right : Right g f′
-  gain-right = record { ok = λ j l. rw gain-count (gain-ok j l); once = λ n l. gain-once n (omega (arith, gain-count)) }
+  gain-right =
+      let k = usedIn g f in
+      record {
+        used = λ j l u. rw gain-count
+            (⊎-elim (λ e. rw e (c .new)) (λ ne. let w = old-used j l ne u in used-ranked g k (k + 1) (f′ j .rank) (f′ j) w (w .rank-low) (omega arith)) (same j x));
+        empty = λ j l u. ⊎-elim (λ e. absurd (true≢false (sym new-used ∙ ap (λ (i : ℕ). isUsed (f′ i)) (sym e) ∙ u)))
+            (λ ne. let r = c .rest j l ne in r ∙ h .empty j l (ap isUsed (sym r) ∙ u))
+            (same j x);
+        apart = λ i j li lj ui uj e. ⊎-elim
+            (λ p. ⊎-elim (λ q. p ∙ sym q) (λ q. let w = old-used j lj q uj in omega (arith, c .top, ap (λ (y : ℕ). f′ y .rank) p)) (same j x))
+            (λ p. ⊎-elim (λ q. let w = old-used i li p ui in omega (arith, c .top, ap (λ (y : ℕ). f′ y .rank) q))
+            (λ q. let a = c .rest i li p in
+            let b = c .rest j lj q in
+            h .apart i j li lj (ap isUsed (sym a) ∙ ui) (ap isUsed (sym b) ∙ uj) (ap (λ (t : Slot). t .rank) (sym a) ∙ e ∙ ap (λ (t : Slot). t .rank) b))
+            (same j x))
+            (same i x);
+      }
 
   pub gain-ages : ages g f′ ≡ x ∷ ages g f
   gain-ages =

@@ -4,7 +4,7 @@ use Prim.Native.Nat.{ℕ, zero, suc, _+_, _≤_, _<_}
 use native.Mathlib.Numerals.{add-one}
 use native.Mathlib.Omega.{arith}
 use mathlib.Core.Bool.{true, not, false≢true}
-use mathlib.Core.Path.{_≡_, sym, ap, _∙_}
+use mathlib.Core.Path.{_≡_, refl, sym, ap, _∙_}
 use mathlib.Core.Logic.{⊎-elim}
 use mathlib.Core.List.{List, _∷_}
 use borrow.Author.Tests.{eq-eqb, ne-eqb}
@@ -13,9 +13,9 @@ use Rattle.folds.specs.Count.{count-ext, count-gone}
 use Rattle.geometry.specs.declared.Geometry.{Geometry}
 use Rattle.slots.specs.declared.Slot.{Slot}
 use Rattle.slots.specs.Record.{isUsed, zeroSlot}
-use Rattle.slots.specs.Slots.{slotOk, usedIn, hasRank, rankedIn}
-use Rattle.slots.specs.Facts.{Used, used-ok, empty-is, zero-ok, Right}
-use Rattle.slots.specs.Ranks.{has-rank, rank-has, not-rank, used-at, rank-apart, used-ranked}
+use Rattle.slots.specs.Slots.{usedIn, hasRank}
+use Rattle.slots.specs.Facts.{Used, Right}
+use Rattle.slots.specs.Ranks.{has-rank, rank-has, not-rank, used-ranked}
 use Rattle.results.specs.Lists.{keep-none, keep-hit, keep-miss}
 use Rattle.results.specs.Ages.{slotRanked, agesTo, ages, without}
 use Rattle.results.specs.Ranks.{ranked-is, ranked-at, ranked-same}
@@ -36,24 +36,22 @@ module _ (g : Geometry) (f f′ : ℕ → Slot) (x : ℕ) (h : Right g f) (c : L
       (λ j l ne. ap isUsed (c .rest j l ne))
 
   at-x : Used g (usedIn g f) (f x)
-  at-x = used-at g f h x (c .inside) (c .used)
+  at-x = h .used x (c .inside) (c .used)
 
   other-rank : (j : ℕ) → j < g .s → (j ≡ x → ⊥) → isUsed (f j) ≡ true → f j .rank ≡ f x .rank → ⊥
-  other-rank j l ne u e = ne (rank-apart g f h j x l (c .inside) u (c .used) e)
+  other-rank j l ne u e = ne (h .apart j x l (c .inside) u (c .used) e)
 
-  gone-ok : (j : ℕ) → j < g .s → slotOk g (usedIn g f′) (f′ j) ≡ true
-  gone-ok j l =
-      let k′ = usedIn g f′ in
-      let r = f x .rank in
-      ⊎-elim (λ e. ap (λ (i : ℕ). slotOk g k′ (f′ i)) e ∙ ap (slotOk g k′) (c .zeroed) ∙ zero-ok g k′)
-      (λ ne. ap (slotOk g k′) (c .rest j l ne)
-      ∙ ⊎-elim (λ u. let w = used-at g f h j l u in
-      let v = at-x in
-      let n = lower-in r (f j .rank) (other-rank j l ne u) k′ (v .rank-low) (omega (arith, gone-count)) (w .rank-low) (omega (arith, gone-count)) in
-      used-ok g k′ (lowerSlot r (f j)) u (used-ranked g (usedIn g f) k′ (lowerRank r (f j .rank)) (f j) w (n .0) (n .1)))
-      (λ u. let z : f j ≡ zeroSlot = empty-is g (usedIn g f) (f j) u (h .ok j l) in rw (z, lower-below r 0 (omega arith)) (zero-ok g k′))
-      (either (isUsed (f j))))
-      (same j x)
+  -- a slot that is used still
+  gone-used : (j : ℕ) → j < g .s → isUsed (f′ j) ≡ true → (j ≡ x → ⊥) × (isUsed (f j) ≡ true) × (f′ j ≡ lowerSlot (f x .rank) (f j))
+  gone-used j l u =
+      let ne : j ≡ x → ⊥ = (λ e. false≢true (ap isUsed (sym (c .zeroed)) ∙ ap (λ (i : ℕ). isUsed (f′ i)) (sym e) ∙ u)) in
+      let r = c .rest j l ne in (ne, ap isUsed (sym r) ∙ u, r)
+
+  -- the rank that it had
+  gone-rank : (j : ℕ) → j < g .s → isUsed (f′ j) ≡ true → (n : ℕ) → f′ j .rank ≡ n → f j .rank ≡ rankBefore (f x .rank) n
+  gone-rank j l u n e =
+      let w = gone-used j l u in
+      lower-before (f x .rank) (f j .rank) (other-rank j l (w .0) (w .1)) n (ap (λ (t : Slot). t .rank) (sym (w .2)) ∙ e)
 
   -- the slot of rank n is the one that had the rank that becomes n
   moved : (n j : ℕ) → j < g .s → hasRank n (f′ j) ≡ hasRank (rankBefore (f x .rank) n) (f j)
@@ -68,16 +66,22 @@ module _ (g : Geometry) (f f′ : ℕ → Slot) (x : ℕ) (h : Right g f) (c : L
       (λ t. let b = rank-has m (f j) t in has-rank n (lowerSlot r (f j)) (b .0) (before-lower r (f j .rank) (other-rank j l ne (b .0)) n (b .1))))
       (same j x)
 
-  gone-once : (n : ℕ) → n < usedIn g f′ → rankedIn g f′ (n + 1) ≡ 1
-  gone-once n l =
-      let r = f x .rank in
-      count-ext (λ i. hasRank (n + 1) (f′ i)) (λ i. hasRank (rankBefore r (n + 1)) (f i)) (g .s) (moved (n + 1))
-      ∙ ⊎-elim (λ b. rw (before-below r (n + 1) b) (h .once n (omega (arith, gone-count))))
-      (λ b. rw (before-above r (n + 1) b, ← add-one (n + 1)) (h .once (n + 1) (omega (arith, gone-count))))
-      (order (n + 1) r)
-
   pub gone-right : Right g f′
-  gone-right = record { ok = gone-ok; once = gone-once }
+  gone-right =
+      record {
+        used = λ j l u. (let w = gone-used j l u in
+            let v = at-x in
+            let t = h .used j l (w .1) in
+            let n = lower-in (f x .rank) (f j .rank) (other-rank j l (w .0) (w .1)) (usedIn g f′) (v .rank-low) (omega (arith, gone-count)) (t .rank-low) (omega (arith, gone-count)) in
+            rw (w .2) (used-ranked g (usedIn g f) (usedIn g f′) (lowerRank (f x .rank) (f j .rank)) (f j) t (n .0) (n .1)));
+        empty = λ j l u. ⊎-elim (λ e. ap f′ e ∙ c .zeroed)
+            (λ ne. let r = c .rest j l ne in
+            let z : f j ≡ zeroSlot = h .empty j l (ap isUsed (sym r) ∙ u) in
+            r ∙ rw (z, lower-below (f x .rank) 0 (omega arith)))
+            (same j x);
+        apart = λ i j li lj ui uj e.
+            h .apart i j li lj (gone-used i li ui .1) (gone-used j lj uj .1) (gone-rank i li ui (f′ j .rank) e ∙ sym (gone-rank j lj uj (f′ j .rank) refl));
+      }
 
   -- ---- by age
 

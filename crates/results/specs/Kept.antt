@@ -9,7 +9,6 @@ use Rattle.geometry.specs.Frame.{Placed}
 use Rattle.slots.specs.Record.{slotOf}
 use Rattle.slots.specs.Slots.{usedCount, slotsOk}
 use Rattle.slots.specs.Facts.{right}
-use Rattle.slots.specs.Ranks.{used-at}
 use Rattle.slots.specs.Kept.{slotBytes, kept-slot, kept-data, kept-count, kept-has}
 use Rattle.results.specs.Lists.{map-same}
 use Rattle.results.specs.Ages.{agesTo, ages}
@@ -31,5 +30,5 @@ module _ (s t : List ℕ) (g : Geometry) (p : Placed g) (e : slotBytes t g ≡ s
       ap (map (resultAt t g)) kept-ages
       ∙ map-same (resultAt t g) (resultAt s g) (byAge s g)
       (λ i m. let b = ages-in g (slotOf s g) h i m in
-      let w = used-at g (slotOf s g) h i (b .0) (b .1) in
+      let w = h .used i (b .0) (b .1) in
       result-same s t g i (slotOf s g i .rank) (kept-slot s t g p e i (b .0)) (kept-data s t g p e i (slotOf s g i .len) (b .0) (w .len-high)))

@@ -14,7 +14,6 @@ use Rattle.slots.specs.declared.Slot.{Slot}
 use Rattle.slots.specs.Record.{isUsed}
 use Rattle.slots.specs.Slots.{usedIn}
 use Rattle.slots.specs.Facts.{Right}
-use Rattle.slots.specs.Ranks.{used-at}
 use Rattle.results.specs.Ages.{slotRanked, agesTo, ages}
 use Rattle.results.specs.Ranks.{ranked-is, ranked-at}
 
@@ -36,7 +35,7 @@ module _ (g : Geometry) (f : ℕ → Slot) (h : Right g f) where
 
   pub in-aged : (n i : ℕ) → Aged g f n i → List·Memᴰ i (agesTo g f n)
   unfolding agesTo
-  in-aged zero i w = absurd (let v = used-at g f h i (w .inside) (w .used) in omega arith)
+  in-aged zero i w = absurd (let v = h .used i (w .inside) (w .used) in omega arith)
   in-aged (suc n) i w =
       ⊎-elim
       (λ l. let e : suc n ≡ f i .rank = omega arith in List·Memᴰ·head (sym (ap (slotRanked g f) e ∙ ranked-is g f h i (w .inside) (w .used))))
@@ -48,7 +47,7 @@ module _ (g : Geometry) (f : ℕ → Slot) (h : Right g f) where
   ages-in i m = let w = aged-in (usedIn g f) i (omega arith) m in (w .inside, w .used)
 
   pub in-ages : (i : ℕ) → i < g .s → isUsed (f i) ≡ true → List·Memᴰ i (ages g f)
-  in-ages i l u = let w = used-at g f h i l u in in-aged (usedIn g f) i (record { inside = l; used = u; high = w .rank-high })
+  in-ages i l u = let w = h .used i l u in in-aged (usedIn g f) i (record { inside = l; used = u; high = w .rank-high })
 
   -- there are as many as used slots, and the one at place p has rank k - p: none stands twice, and the ranks fall
   length-to : (n : ℕ) → length (agesTo g f n) ≡ n

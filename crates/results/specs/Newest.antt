@@ -21,7 +21,6 @@ use Rattle.slots.specs.Slots.{usedIn, slotsOk}
 use Rattle.slots.specs.Facts.{Right, right}
 use Rattle.slots.specs.Find.{wanted, newestOf}
 use Rattle.slots.specs.Change.{released}
-use Rattle.slots.specs.Ranks.{used-at}
 use Rattle.results.specs.Lists.{keep-hit, keep-miss, keep-all}
 use Rattle.results.specs.First.{firstOf, sansFirst, first-hit, first-miss, first-none, first-passes, first-map, sans-hit, sans-miss, sans-map}
 use Rattle.results.specs.Ages.{slotRanked, agesTo, without}
@@ -38,7 +37,7 @@ module _ (g : Geometry) (f : ℕ → Slot) (h : Right g f) (p : ℕ → Bool) wh
   first-aged : (i : ℕ) → i < g .s → isUsed (f i) ≡ true → p i ≡ true → ((j : ℕ) → j < g .s → p j ≡ true → f j .rank ≤ f i .rank)
       → (n : ℕ) → f i .rank ≤ n → n ≤ usedIn g f → firstOf p (agesTo g f n) ≡ some i
   unfolding agesTo
-  first-aged i l u pi most zero r ln = absurd (let w = used-at g f h i l u in omega arith)
+  first-aged i l u pi most zero r ln = absurd (let w = h .used i l u in omega arith)
   first-aged i l u pi most (suc n) r ln =
       let w = ranked-at g f h n ln in
       ⊎-elim

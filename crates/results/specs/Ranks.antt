@@ -6,14 +6,13 @@ use native.Mathlib.Omega.{arith}
 use mathlib.Core.Bool.{true, false}
 use mathlib.Core.Path.{_≡_, refl, sym, ap, ap₂, _∙_}
 use mathlib.Core.List.{List, _∷_}
-use Rattle.folds.specs.Count.{count-some}
 use Rattle.folds.specs.Least.{index, least-only, least-ext}
 use Rattle.geometry.specs.declared.Geometry.{Geometry}
 use Rattle.slots.specs.declared.Slot.{Slot}
 use Rattle.slots.specs.Record.{isUsed}
 use Rattle.slots.specs.Slots.{usedIn, hasRank}
 use Rattle.slots.specs.Facts.{Right}
-use Rattle.slots.specs.Ranks.{has-rank, rank-has, not-rank, rank-apart}
+use Rattle.slots.specs.Ranks.{has-rank, not-rank, ranked-some}
 use Rattle.results.specs.Ages.{slotRanked, agesTo}
 
 -- the only slot of rank n
@@ -33,16 +32,15 @@ module _ (g : Geometry) (f : ℕ → Slot) (h : Right g f) where
   pub ranked-is : (i : ℕ) → i < g .s → isUsed (f i) ≡ true → slotRanked g f (f i .rank) ≡ i
   ranked-is i l u =
       ranked-only g f (f i .rank) i l (has-rank (f i .rank) (f i) u refl)
-      (λ j lj ne. not-rank (f i .rank) (f j) (λ uj e. ne (rank-apart g f h j i lj l uj u e)))
+      (λ j lj ne. not-rank (f i .rank) (f j) (λ uj e. ne (h .apart j i lj l uj u e)))
 
   -- each rank of 1 to k is some used slot's
   pub ranked-at : (n : ℕ) → n < usedIn g f
       → (slotRanked g f (suc n) < g .s) × (isUsed (f (slotRanked g f (suc n))) ≡ true) × (f (slotRanked g f (suc n)) .rank ≡ suc n)
   ranked-at n l =
-      let w = count-some (λ a. hasRank (n + 1) (f a)) (g .s) (omega (arith, h .once n l)) in
-      let b = rank-has (n + 1) (f (w .0)) (w .1 .1) in
-      let q : slotRanked g f (suc n) ≡ w .0 = ap (slotRanked g f) (sym (b .1 ∙ add-one n)) ∙ ranked-is (w .0) (w .1 .0) (b .0) in
-      rw q (w .1 .0, b .0, b .1 ∙ add-one n)
+      let w = ranked-some g f h n l in
+      let q : slotRanked g f (suc n) ≡ w .0 = ap (slotRanked g f) (sym (w .1 .2 ∙ add-one n)) ∙ ranked-is (w .0) (w .1 .0) (w .1 .1) in
+      rw q (w .1 .0, w .1 .1, w .1 .2 ∙ add-one n)
 
 -- two lists by age with the same slots, and one with a rank more
 pub ages-same : (g : Geometry) (f f′ : ℕ → Slot) (n : ℕ)

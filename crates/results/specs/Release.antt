@@ -25,7 +25,6 @@ use Rattle.slots.specs.Slots.{usedCount, slotsOk}
 use Rattle.slots.specs.Facts.{empty-is, right, right-ok}
 use Rattle.slots.specs.Change.{lowered, released}
 use Rattle.slots.specs.Stored.{slot-zeroed, slot-other}
-use Rattle.slots.specs.Ranks.{used-at}
 use Rattle.results.specs.Lists.{map-keeping}
 use Rattle.results.specs.Ages.{without}
 use Rattle.results.specs.Lower.{lowerRank, lowerSlot, lower-below}
@@ -49,8 +48,8 @@ module _ (s : List ℕ) (g : Geometry) (f : Framed s g) (ok : slotsOk s g ≡ tr
   rank-small j l =
       let h = right s g ok in
       ⊎-elim
-      (λ u. let w = used-at g (slotOf s g) h j l u in omega (arith, count-le (λ i. isUsed (slotOf s g i)) (g .s), f .placed .ranges .s-high))
-      (λ u. omega (arith, ap (λ (t : Slot). t .rank) (empty-is g (usedCount s g) (slotOf s g j) u (h .ok j l))))
+      (λ u. let w = h .used j l u in omega (arith, count-le (λ i. isUsed (slotOf s g i)) (g .s), f .placed .ranges .s-high))
+      (λ u. omega (arith, ap (λ (t : Slot). t .rank) (h .empty j l u)))
       (either (isUsed (slotOf s g j)))
 
   module _ (x : ℕ) (l : x < g .s) where
@@ -90,7 +89,7 @@ module _ (s : List ℕ) (g : Geometry) (f : Framed s g) (ok : slotsOk s g ≡ tr
 
       left : (i : ℕ) → i < g .s → isUsed (slotOf s g i) ≡ true → (i ≡ x → ⊥) → resultAt (released s g x) g i ≡ resultAt s g i
       left i li ui ne =
-          let w = used-at g (slotOf s g) (right s g ok) i li ui in
+          let w = right s g ok .used i li ui in
           result-same s (released s g x) g i (lowerRank (slotOf s g x .rank) (slotOf s g i .rank)) (release-slot i li ne)
           (release-part s g x (dataAt g i) (slotOf s g i .len * g .l) l (outside-data g i (slotOf s g i .len) (w .len-high)))
 

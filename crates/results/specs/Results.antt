@@ -16,7 +16,6 @@ use Rattle.slots.specs.RecordLaws.{ranked}
 use Rattle.slots.specs.Slots.{usedCount, slotsOk}
 use Rattle.slots.specs.Facts.{Used, right}
 use Rattle.slots.specs.Change.{entry, retained}
-use Rattle.slots.specs.Ranks.{used-at}
 use Rattle.results.specs.Ages.{ages}
 use Rattle.results.specs.Members.{ages-in}
 
@@ -87,4 +86,4 @@ module _ (m : List ℕ) (g : Geometry) (f : Framed m g) (ok : slotsOk m g ≡ tr
       let w = Memᴰ·of-map (resultAt m g) (byAge m g) q in
       let h = right m g ok in
       let b = ages-in g (slotOf m g) h (w .0) (w .1) in
-      rw (← w .2) (slot-sound (w .0) (b .0) (used-at g (slotOf m g) h (w .0) (b .0) (b .1)))
+      rw (← w .2) (slot-sound (w .0) (b .0) (h .used (w .0) (b .0) (b .1)))

@@ -16,7 +16,7 @@ use Rattle.folds.specs.Count.{count-le}
 use Rattle.geometry.specs.declared.Geometry.{Geometry}
 use Rattle.geometry.specs.Header.{slotAt, dataAt}
 use Rattle.geometry.specs.Frame.{Framed}
-use Rattle.geometry.specs.Places.{slots-apart, slot-after-table, slot-before-media, data-ends, data-in}
+use Rattle.geometry.specs.Places.{slots-apart, slot-after-front, slot-before-media, data-ends, data-in}
 use Rattle.geometry.specs.Outside.{Away}
 use Rattle.slots.specs.declared.Slot.{Slot}
 use Rattle.slots.specs.Record.{slotOf, bytesOf, isUsed}
@@ -26,7 +26,6 @@ use Rattle.slots.specs.Facts.{Used, empty-inside, right, right-ok}
 use Rattle.slots.specs.Find.{emptySlot}
 use Rattle.slots.specs.Change.{entered, retained}
 use Rattle.slots.specs.Stored.{slot-put, slot-other}
-use Rattle.slots.specs.Ranks.{used-at}
 use Rattle.results.specs.Lists.{map-same}
 use Rattle.results.specs.Gain.{Gained, gain-right, gain-ages}
 use Rattle.results.specs.Members.{ages-in}
@@ -114,7 +113,7 @@ module _ (s : List ℕ) (g : Geometry) (f : Framed s g) (ok : slotsOk s g ≡ tr
   pub retain-away : (a n : ℕ) → Away g a n → part (withResult s g r) a n ≡ part s a n
   retain-away a n o =
       retain-part a n
-      (⊎-elim (λ l. inl (omega (arith, slot-after-table g x (f .placed), f .placed .slots-is)))
+      (⊎-elim (λ l. inl (omega (arith, slot-after-front g x)))
       (λ l. inr (omega (arith, data-ends g x (r .len) (w .len-high), slot-before-media g x (f .placed) inside)))
       o)
 
@@ -131,7 +130,7 @@ module _ (s : List ℕ) (g : Geometry) (f : Framed s g) (ok : slotsOk s g ≡ tr
 
   old-result : (i : ℕ) → i < g .s → isUsed (slotOf s g i) ≡ true → resultAt (filled s g x r) g i ≡ resultAt s g i
   old-result i l u =
-      let v = used-at g (slotOf s g) (right s g ok) i l u in
+      let v = right s g ok .used i l u in
       let ne : i ≡ x → ⊥ = (λ q. true≢false (sym u ∙ ap (λ (j : ℕ). isUsed (slotOf s g j)) q ∙ empty-inside s g x e .1)) in
       result-same s (filled s g x r) g i (slotOf s g i .rank) (filled-other i ne)
       (part-put-apart s (slotAt g x) _ (dataAt g i) (slotOf s g i .len * g .l)

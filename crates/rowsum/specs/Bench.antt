@@ -7,10 +7,8 @@ use Rattle.octets.specs.Number.{num}
 use Rattle.folds.specs.Every.{every}
 use Rattle.folds.specs.All.{allBelow}
 use Rattle.folds.specs.Count.{countBelow}
-use Rattle.geometry.specs.Header.{rangesOk, offsetsOk, framedOk, slotAt, place}
-use Rattle.drives.specs.Table.{statesOk, newAddress, addressesOk, tableOk}
+use Rattle.geometry.specs.Header.{slotAt, place}
 use Rattle.slots.specs.Record.{slotOf}
-use Rattle.slots.specs.Slots.{slotOk, eachOk, ranksOk, slotsOk}
 use Rattle.image.specs.Valid.{validImage}
 use Rattle.image.specs.Bench.{bench, afterC2}
 use Rattle.sums.specs.Row.{counts, summedTo, rowSum, isOpen}
@@ -27,5 +25,5 @@ pub bench-listings :
     × (textOf (set afterC2 40 1) ≡ ascii "drives 3 blocks 2 length 4 open 1\nrow 0 sum f50bf30d\n")
     × (textOf (set afterC2 40 2) ≡ ascii "not a shelf\n")
     × (textOf (set bench 88 1) ≡ ascii "drives 3 blocks 2 length 4 open 1\nrow 1 sum 01000000\n")
-unfolding textOf shelfLines rowLines lineOf rowLine headLine written decimal decimalIn hexadecimal hexDigit rowSum summedTo counts isOpen _⊻_ validImage framedOk rangesOk offsetsOk tableOk statesOk newAddress addressesOk slotsOk eachOk ranksOk slotOk slotOf slotAt place every allBelow countBelow part num
+unfolding textOf shelfLines rowLines lineOf rowLine headLine written decimal decimalIn hexadecimal hexDigit rowSum summedTo counts isOpen _⊻_ validImage slotOf slotAt place every allBelow countBelow part num
 bench-listings = (refl, refl, refl, refl, refl)

@@ -57,7 +57,7 @@ module _ (s : List ℕ) (g : Geometry) (f : Framed s g) where
   module _ (h : length s ≤ 49152) where
     -- the image has a header, a table and D*B*L bytes
     media-fit : g .d * (g .b * g .l) + 32 + 4 * g .d ≤ 49152
-    media-fit = omega (arith, mul-assoc (g .d) (g .b) (g .l), f .length-is, f .placed .media-is)
+    media-fit = omega (arith, mul-assoc (g .d) (g .b) (g .l), f .media-end, f .placed .slots-end, f .placed .table-ends, f .placed .header-ends)
 
     blocks-fit : 2 * (g .b * g .l) ≤ 49112
     blocks-fit = omega (arith, media-fit, mul-le-mul-right (g .b * g .l) (f .placed .ranges .d-low), f .placed .ranges .d-low)

@@ -1,2 +1,3 @@
 pub mod Rule
 pub mod Reason
+pub mod Must

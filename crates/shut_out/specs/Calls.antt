@@ -11,10 +11,9 @@ use Rattle.folds.specs.Every.{every}
 use Rattle.folds.specs.All.{allBelow}
 use Rattle.folds.specs.Count.{countBelow}
 use Rattle.folds.specs.Least.{leastBelow}
-use Rattle.geometry.specs.Header.{rangesOk, offsetsOk, framedOk, slotAt}
-use Rattle.drives.specs.Table.{statesOk, newAddress, addressesOk, tableOk, driveOf, to, marked}
+use Rattle.geometry.specs.Header.{slotAt}
+use Rattle.drives.specs.Table.{driveOf, to, marked}
 use Rattle.slots.specs.Record.{slotOf}
-use Rattle.slots.specs.Slots.{slotOk, eachOk, ranksOk, slotsOk}
 use Rattle.slots.specs.Change.{lowerOne, lowered, released, dropped, droppedTo, dropOne}
 use Rattle.image.specs.Valid.{validImage}
 use Rattle.image.specs.Bench.{shelfOf, two, three, bench, fresh, result, afterC2}
@@ -32,14 +31,14 @@ use Rattle.shut_out.specs.Step.{example}
 -- a reset of drive 1 with its result there, and of a drive that is none
 resets :
     (numberOf (resetAnswer afterC2 (to 1)) ≡ 0) × (resetImage afterC2 (to 1) ≡ shelfOf 0 (left result) fresh two three) × (numberOf (resetAnswer bench (to 9)) ≡ 258)
-unfolding resetAnswer resetImage validImage framedOk rangesOk offsetsOk tableOk statesOk newAddress addressesOk slotsOk eachOk ranksOk slotOk slotOf slotAt every allBelow countBelow leastBelow driveOf dropped droppedTo dropOne released lowered lowerOne part put num
+unfolding resetAnswer resetImage validImage slotOf slotAt every allBelow countBelow leastBelow driveOf dropped droppedTo dropOne released lowered lowerOne part put num
 resets = (refl, refl, refl)
 
 -- drive 1 marked failed, then drive 2; and a state that is none
 markings :
     (numberOf (markAnswer bench (to 1) 1) ≡ 0) × (markImage bench (to 1) 1 ≡ set bench 32 1) × (markImage (set bench 32 1) (to 2) 1 ≡ set (set bench 32 1) 36 1)
     × (numberOf (markAnswer bench (to 1) 2) ≡ 262)
-unfolding markAnswer markImage validImage framedOk rangesOk offsetsOk tableOk statesOk newAddress addressesOk slotsOk eachOk ranksOk slotOk slotOf slotAt every allBelow countBelow leastBelow driveOf marked part put num
+unfolding markAnswer markImage validImage slotOf slotAt every allBelow countBelow leastBelow driveOf marked part put num
 markings = (refl, refl, refl, refl)
 
 -- ---- a reset

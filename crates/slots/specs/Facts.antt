@@ -1,18 +1,22 @@
 -- What the slots' tests say, by name.
-use mathlib.Core.Path.{_≡_, refl}
+use mathlib.Core.Path.{_≡_, sym, ap}
+use mathlib.Core.Logic.{⊎-elim}
 use mathlib.Core.List.{List}
-use mathlib.Core.Bool.{true, false, not}
+use mathlib.Core.Bool.{Bool, true, false, not}
 use Prim.Native.Nat.{ℕ, _+_, _≤_, _<_}
-use borrow.Author.Tests.{leb-true, ltb-true, eqb-true, le-leb, lt-ltb, eq-eqb, not-true, not-false}
+use native.Mathlib.Omega.{arith}
+use borrow.Author.Tests.{leb-true, ltb-true, eqb-true, eqb-false, le-leb, lt-ltb, eq-eqb, ne-eqb, not-true, not-false}
+use Rattle.folds.specs.Cases.{either, same, apart as differ}
 use Rattle.folds.specs.Every.{every, holds, every-of}
 use Rattle.folds.specs.All.{all-at, all-intro}
 use Rattle.folds.specs.declared.Found.the-variants.{At}
 use Rattle.folds.specs.Least.{least-inside}
+use Rattle.rules.specs.Must.{tests}
 use Rattle.geometry.specs.declared.Geometry.{Geometry}
 use Rattle.slots.specs.declared.Slot.{Slot}
 use Rattle.slots.specs.Record.{slotOf, zeroSlot, isUsed}
 use Rattle.slots.specs.Find.{emptySlot}
-use Rattle.slots.specs.Slots.{emptyOk, usedOk, slotOk, usedIn, usedCount, rankedIn, eachOk, ranksOk, slotsOk}
+use Rattle.slots.specs.Slots.{emptyMusts, usedMusts, slotOk, usedIn, newRank, slotsOk}
 
 pub record Used (g : Geometry) (k : ℕ) (r : Slot) : Type 0 where
   pub kind-low : 1 ≤ r .kind
@@ -25,62 +29,65 @@ pub record Used (g : Geometry) (k : ℕ) (r : Slot) : Type 0 where
   pub rank-low : 1 ≤ r .rank
   pub rank-high : r .rank ≤ k
 
-pub used-facts : (g : Geometry) (k : ℕ) (r : Slot) → isUsed r ≡ true → slotOk g k r ≡ true → Used g k r
-unfolding slotOk
-used-facts g k r u ok =
-    let e : usedOk g k r ≡ true = rw u at ok in
-    record {
-      kind-low = leb-true _ _ (holds _ 0 e);
-      kind-high = leb-true _ _ (holds _ 1 e);
-      drive-in = ltb-true _ _ (holds _ 2 e);
-      len-low = leb-true _ _ (holds _ 3 e);
-      len-high = leb-true _ _ (holds _ 4 e);
-      range-in = leb-true _ _ (holds _ 5 e);
-      last-zero = eqb-true _ _ (holds _ 6 e);
-      rank-low = leb-true _ _ (holds _ 7 e);
-      rank-high = leb-true _ _ (holds _ 8 e);
-    }
+module _ (g : Geometry) (k : ℕ) (new : Bool) (r : Slot) where
+  pub used-facts : isUsed r ≡ true → slotOk g k new r ≡ true → Used g k r × (new ≡ true)
+  used-facts u ok =
+      let e : every (tests (usedMusts g k new zeroSlot r)) ≡ true = rw u at ok in (
+        record {
+          rank-low = leb-true _ _ (holds _ 0 e);
+          rank-high = leb-true _ _ (holds _ 1 e);
+          kind-low = leb-true _ _ (holds _ 3 e);
+          kind-high = leb-true _ _ (holds _ 4 e);
+          drive-in = ltb-true _ _ (holds _ 5 e);
+          len-low = leb-true _ _ (holds _ 6 e);
+          len-high = leb-true _ _ (holds _ 7 e);
+          range-in = leb-true _ _ (holds _ 8 e);
+          last-zero = eqb-true _ _ (holds _ 9 e);
+        },
+        holds _ 2 e,
+      )
 
-pub used-ok : (g : Geometry) (k : ℕ) (r : Slot) → isUsed r ≡ true → Used g k r → slotOk g k r ≡ true
-unfolding slotOk
-used-ok g k r u h =
-    rw u
-    (every-of _ (
-      le-leb _ _ (h .kind-low),
-      (
-        le-leb _ _ (h .kind-high),
+  pub used-ok : isUsed r ≡ true → Used g k r → new ≡ true → slotOk g k new r ≡ true
+  used-ok u h n =
+      rw u
+      (every-of (tests (usedMusts g k new zeroSlot r)) (
+        le-leb _ _ (h .rank-low),
         (
-          lt-ltb _ _ (h .drive-in),
+          le-leb _ _ (h .rank-high),
           (
-            le-leb _ _ (h .len-low),
+            n,
             (
-              le-leb _ _ (h .len-high),
+              le-leb _ _ (h .kind-low),
               (
-                le-leb _ _ (h .range-in),
-                (eq-eqb _ _ (h .last-zero), (le-leb _ _ (h .rank-low), (le-leb _ _ (h .rank-high), tt))),
+                le-leb _ _ (h .kind-high),
+                (
+                  lt-ltb _ _ (h .drive-in),
+                  (
+                    le-leb _ _ (h .len-low),
+                    (le-leb _ _ (h .len-high), (le-leb _ _ (h .range-in), (eq-eqb _ _ (h .last-zero), tt))),
+                  ),
+                ),
               ),
             ),
           ),
         ),
-      ),
-    ))
+      ))
 
--- an empty slot that is right is all zero, and the other way round
-pub empty-is : (g : Geometry) (k : ℕ) (r : Slot) → isUsed r ≡ false → slotOk g k r ≡ true → r ≡ zeroSlot
-unfolding slotOk
-empty-is g k r u ok =
-    let e : emptyOk r ≡ true = rw u at ok in
-    let z0 : r .kind ≡ 0 = eqb-true _ _ (not-false _ u) in
-    let z1 : r .rank ≡ 0 = eqb-true _ _ (holds _ 0 e) in
-    let z2 : r .drive ≡ 0 = eqb-true _ _ (holds _ 1 e) in
-    let z3 : r .len ≡ 0 = eqb-true _ _ (holds _ 2 e) in
-    let z4 : r .block .0 ≡ 0 = eqb-true _ _ (holds _ 3 e) in
-    let z5 : r .last ≡ 0 = eqb-true _ _ (holds _ 4 e) in
-    rw (z0, z1, z2, z3, z4, z5)
+  -- an empty slot that is right is all zero, and the other way round
+  pub empty-is : isUsed r ≡ false → slotOk g k new r ≡ true → r ≡ zeroSlot
+  empty-is u ok =
+      let e : every (tests (emptyMusts zeroSlot r)) ≡ true = rw u at ok in
+      let z0 : r .kind ≡ 0 = eqb-true _ _ (not-false _ u) in
+      let z1 : r .rank ≡ 0 = eqb-true _ _ (holds _ 0 e) in
+      let z2 : r .drive ≡ 0 = eqb-true _ _ (holds _ 1 e) in
+      let z3 : r .len ≡ 0 = eqb-true _ _ (holds _ 2 e) in
+      let z4 : r .block .0 ≡ 0 = eqb-true _ _ (holds _ 3 e) in
+      let z5 : r .last ≡ 0 = eqb-true _ _ (holds _ 4 e) in
+      rw (z0, z1, z2, z3, z4, z5)
 
-pub zero-ok : (g : Geometry) (k : ℕ) → slotOk g k zeroSlot ≡ true
-unfolding slotOk every
-zero-ok g k = refl
+  pub zero-ok : r ≡ zeroSlot → slotOk g k new r ≡ true
+  unfolding every
+  zero-ok e = rw e
 
 -- ---- the slot that takes a result
 
@@ -90,17 +97,42 @@ empty-inside s g i e = let r = least-inside (λ k. not (isUsed (slotOf s g k))) 
 
 -- ---- all slots together
 
--- the slots f are right: k of them are used, each is right, and each rank of 1 to k is one slot's
+-- the slots f are right: k of them are used, with ranks of 1 to k, no two the same
 pub record Right (g : Geometry) (f : ℕ → Slot) : Type 0 where
-  pub ok : (i : ℕ) → i < g .s → slotOk g (usedIn g f) (f i) ≡ true
-  pub once : (n : ℕ) → n < usedIn g f → rankedIn g f (n + 1) ≡ 1
+  pub used : (i : ℕ) → i < g .s → isUsed (f i) ≡ true → Used g (usedIn g f) (f i)
+  pub empty : (i : ℕ) → i < g .s → isUsed (f i) ≡ false → f i ≡ zeroSlot
+  pub apart : (i j : ℕ) → i < g .s → j < g .s → isUsed (f i) ≡ true → isUsed (f j) ≡ true → f i .rank ≡ f j .rank → i ≡ j
 
-pub right : (s : List ℕ) (g : Geometry) → slotsOk s g ≡ true → Right g (slotOf s g)
-unfolding slotsOk eachOk ranksOk
-right s g e =
-    record { ok = λ i l. all-at _ (g .s) i (holds _ 0 e) l; once = λ n l. eqb-true _ _ (all-at _ (usedCount s g) n (holds _ 1 e) l) }
+module _ (s : List ℕ) (g : Geometry) where
+  abbrev f : ℕ → Slot
+  f = slotOf s g
 
-pub right-ok : (s : List ℕ) (g : Geometry) → Right g (slotOf s g) → slotsOk s g ≡ true
-unfolding slotsOk eachOk ranksOk
-right-ok s g h =
-    every-of _ (all-intro _ (g .s) (h .ok), (all-intro _ (usedCount s g) (λ n l. eq-eqb _ _ (h .once n l)), tt))
+  at : slotsOk s g ≡ true → (i : ℕ) → i < g .s → slotOk g (usedIn g f) (newRank f i) (f i) ≡ true
+  unfolding slotsOk
+  at ok i l = all-at _ (g .s) i ok l
+
+  new-at : slotsOk s g ≡ true → (i j : ℕ) → i < g .s → isUsed (f i) ≡ true → j < i → f j .rank ≡ f i .rank → ⊥
+  new-at ok i j l u lj = eqb-false _ _ (not-true _ (all-at _ i j (used-facts g _ _ (f i) u (at ok i l) .1) lj))
+
+  pub right : slotsOk s g ≡ true → Right g f
+  right ok =
+      record {
+        used = λ i l u. used-facts g _ _ (f i) u (at ok i l) .0;
+        empty = λ i l u. empty-is g _ _ (f i) u (at ok i l);
+        apart = λ i j li lj ui uj e. ⊎-elim (λ q. q)
+            (λ ne. ⊎-elim (λ l. absurd (new-at ok j i lj uj l e)) (λ l. absurd (new-at ok i j li ui l (sym e))) (differ i j ne))
+            (same i j);
+      }
+
+  new-of : Right g f → (i : ℕ) → i < g .s → isUsed (f i) ≡ true → newRank f i ≡ true
+  new-of h i l u =
+      all-intro _ i
+      (λ j lj. ap not (ne-eqb _ _ (λ e. ⊎-elim (λ v. let q = h .apart j i (omega arith) l v u e in omega arith)
+      (λ v. let w = h .used i l u in omega (arith, ap (λ (r : Slot). r .rank) (h .empty j (omega arith) v)))
+      (either (isUsed (f j))))))
+
+  pub right-ok : Right g f → slotsOk s g ≡ true
+  unfolding slotsOk
+  right-ok h =
+      all-intro _ (g .s)
+      (λ i l. ⊎-elim (λ u. used-ok g _ _ (f i) u (h .used i l u) (new-of h i l u)) (λ u. zero-ok g _ _ (f i) (h .empty i l u)) (either (isUsed (f i))))

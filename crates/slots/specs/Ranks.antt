@@ -1,19 +1,19 @@
--- Used slots and their ranks, where the slots are right: each rank of 1 to k is one slot's.
+-- Used slots and their ranks, where the slots are right: each rank of 1 to k is some slot's.
 use Prim.Native.Nat.{ℕ, _+_, _-_, _≤_, _<_}
 use native.Mathlib.Omega.{arith}
 use mathlib.Core.Bool.{true, false, not}
-use mathlib.Core.Path.{_≡_, ap, _∙_}
+use mathlib.Core.Path.{_≡_, ap}
 use mathlib.Core.Logic.{⊎-elim}
 use borrow.Author.Tests.{eqb-true, eq-eqb, ne-eqb}
 use Rattle.folds.specs.Cases.{either}
 use Rattle.folds.specs.Every.{each, every-of}
-use Rattle.folds.specs.Count.{count-unique}
+use Rattle.folds.specs.Onto.{onto}
 use Rattle.geometry.specs.declared.Geometry.{Geometry}
 use Rattle.slots.specs.declared.Slot.{Slot}
 use Rattle.slots.specs.Record.{isUsed}
 use Rattle.slots.specs.RecordLaws.{ranked}
-use Rattle.slots.specs.Slots.{slotOk, usedIn, hasRank}
-use Rattle.slots.specs.Facts.{Used, used-facts, empty-is, zero-ok, Right}
+use Rattle.slots.specs.Slots.{usedIn, hasRank}
+use Rattle.slots.specs.Facts.{Used, Right}
 
 pub has-rank : (n : ℕ) (r : Slot) → isUsed r ≡ true → r .rank ≡ n → hasRank n r ≡ true
 has-rank n r u e = every-of _ (u, (eq-eqb _ _ e, tt))
@@ -43,21 +43,13 @@ used-ranked g k k′ n r w a b =
       rank-high = b;
     }
 
--- an empty slot that is right is so among any number of results
-pub empty-any : (g : Geometry) (k k′ : ℕ) (r : Slot) → isUsed r ≡ false → slotOk g k r ≡ true → slotOk g k′ r ≡ true
-empty-any g k k′ r u e = ap (slotOk g k′) (empty-is g k r u e) ∙ zero-ok g k′
-
 -- ---- all slots together
 
-module _ (g : Geometry) (f : ℕ → Slot) (h : Right g f) where
-  pub used-at : (i : ℕ) → i < g .s → isUsed (f i) ≡ true → Used g (usedIn g f) (f i)
-  used-at i l u = used-facts g (usedIn g f) (f i) u (h .ok i l)
-
-  -- no two used slots have one rank
-  pub rank-apart : (i j : ℕ) → i < g .s → j < g .s → isUsed (f i) ≡ true → isUsed (f j) ≡ true → f i .rank ≡ f j .rank → i ≡ j
-  rank-apart i j li lj ui uj e =
-      let w = used-at i li ui in
-      let n = f i .rank - 1 in
-      let r : f i .rank ≡ n + 1 = omega arith in
-      count-unique (λ a. hasRank (n + 1) (f a)) (g .s) i j (omega (arith, h .once n (omega arith))) li lj
-      (has-rank (n + 1) (f i) ui r) (has-rank (n + 1) (f j) uj (omega arith))
+-- each rank of 1 to k is some used slot's
+pub ranked-some : (g : Geometry) (f : ℕ → Slot) → Right g f → (n : ℕ) → n < usedIn g f → (i : ℕ) × ((i < g .s) × (isUsed (f i) ≡ true) × (f i .rank ≡ n + 1))
+ranked-some g f h n l =
+    let w =
+    onto (λ i. isUsed (f i)) (λ i. f i .rank - 1) (g .s) (λ i j li lj ui uj e. let a = h .used i li ui in let b = h .used j lj uj in h .apart i j li lj ui uj (omega arith))
+    (λ i li u. let a = h .used i li u in omega arith) n l in
+    let a = h .used (w .0) (w .1 .0) (w .1 .1) in
+    (w .0, (w .1 .0, w .1 .1, omega (arith, w .1 .2)))

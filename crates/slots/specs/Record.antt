@@ -1,5 +1,5 @@
 -- A slot's record (01, "The image"). Only this file knows where its fields lie.
-use Prim.Native.Nat.{ℕ}
+use Prim.Native.Nat.{ℕ, _+_}
 use mathlib.Core.List.{List, _++_}
 use mathlib.Core.Bool.{Bool, not}
 use lib.Dec.{eqb}
@@ -13,6 +13,10 @@ use Rattle.slots.specs.declared.Slot.{Slot}
 abbrev pub recordOf : List ℕ → Slot
 recordOf bytes =
     record { rank = be 4 bytes 0; kind = be 1 bytes 4; drive = be 1 bytes 5; len = be 2 bytes 6; block = record { 0 = be 4 bytes 8 }; last = be 4 bytes 12 }
+
+-- where its fields start, where it starts at index at
+abbrev pub fieldsAt : ℕ → Slot
+fieldsAt at = record { rank = at; kind = at + 4; drive = at + 5; len = at + 6; block = record { 0 = at + 8 }; last = at + 12 }
 
 -- the sixteen bytes that write it
 unfoldable pub bytesOf : Slot → List ℕ

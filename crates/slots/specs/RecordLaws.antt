@@ -76,7 +76,7 @@ record-ranked r v l h =
 -- the record's bytes lie in the image
 module _ (s : List ℕ) (g : Geometry) (at : ℕ) (f : Framed s g) (h : at + 16 + g .m * g .l ≤ g .media) where
   pub record-room : at + 16 ≤ length s
-  record-room = omega (arith, f .length-is)
+  record-room = omega (arith, f .media-end)
 
   pub rank-room : at + 4 ≤ length s
   rank-room = omega (arith, record-room)

@@ -1,36 +1,46 @@
 -- What makes the slots right (01, "The image").
 use Prim.Native.Nat.{ℕ, _+_}
 use mathlib.Core.List.{List, [], _∷_}
-use mathlib.Core.Bool.{Bool, cond}
+use mathlib.Core.Bool.{Bool, not, cond}
 use lib.Dec.{leb, ltb, eqb}
 use Rattle.folds.specs.Every.{every}
 use Rattle.folds.specs.All.{allBelow}
 use Rattle.folds.specs.Count.{countBelow}
+use Rattle.rules.specs.Must.{Must, must, tests}
 use Rattle.geometry.specs.declared.Geometry.{Geometry}
+use Rattle.geometry.specs.Header.{Spot, Byte, slotAt}
 use Rattle.slots.specs.declared.Slot.{Slot}
-use Rattle.slots.specs.Record.{slotOf, isUsed}
+use Rattle.slots.specs.Record.{fieldsAt, slotOf, zeroSlot, isUsed}
 
--- "An empty slot's record is all zero; its data may be anything." (That its kind is zero says that it is empty.)
-abbrev pub emptyOk : Slot → Bool
-emptyOk e = every (eqb (e .rank) 0 ∷ eqb (e .drive) 0 ∷ eqb (e .len) 0 ∷ eqb (e .block .0) 0 ∷ eqb (e .last) 0 ∷ [])
+-- "An empty slot's record is all zero; its data may be anything." (That its kind is zero says that it is empty.) Its fields start as w says.
+abbrev pub emptyMusts : Slot → Slot → List (Must Spot)
+emptyMusts w e =
+    must (Byte (w .rank)) (eqb (e .rank) 0)
+    ∷ must (Byte (w .drive)) (eqb (e .drive) 0)
+    ∷ must (Byte (w .len)) (eqb (e .len) 0)
+    ∷ must (Byte (w .block .0)) (eqb (e .block .0) 0)
+    ∷ must (Byte (w .last)) (eqb (e .last) 0)
+    ∷ []
 
--- "Used slots have kind 1 or 2, index below D, length 1 to M, block + length at most B, and their ranks are 1 to k": k of them are used
-abbrev pub usedOk : Geometry → ℕ → Slot → Bool
-usedOk g k e =
-    every
-    (leb 1 (e .kind)
-    ∷ leb (e .kind) 2
-    ∷ ltb (e .drive) (g .d)
-    ∷ leb 1 (e .len)
-    ∷ leb (e .len) (g .m)
-    ∷ leb (e .block .0 + e .len) (g .b)
-    ∷ eqb (e .last) 0
-    ∷ leb 1 (e .rank)
-    ∷ leb (e .rank) k
-    ∷ [])
+-- "Used slots have kind 1 or 2, index below D, length 1 to M, block + length at most B, and their ranks are 1 to k, each once": k of them are
+-- used, and the rank is new
+abbrev pub usedMusts : Geometry → ℕ → Bool → Slot → Slot → List (Must Spot)
+usedMusts g k new w e =
+    must (Byte (w .rank)) (leb 1 (e .rank))
+    ∷ must (Byte (w .rank)) (leb (e .rank) k)
+    ∷ must (Byte (w .rank)) new
+    ∷ must (Byte (w .kind)) (leb 1 (e .kind))
+    ∷ must (Byte (w .kind)) (leb (e .kind) 2)
+    ∷ must (Byte (w .drive)) (ltb (e .drive) (g .d))
+    ∷ must (Byte (w .len)) (leb 1 (e .len))
+    ∷ must (Byte (w .len)) (leb (e .len) (g .m))
+    ∷ must (Byte (w .block .0)) (leb (e .block .0 + e .len) (g .b))
+    ∷ must (Byte (w .last)) (eqb (e .last) 0)
+    ∷ []
 
-unfoldable pub slotOk : Geometry → ℕ → Slot → Bool
-slotOk g k e = cond (isUsed e) (usedOk g k e) (emptyOk e)
+-- the tests, wherever the slot starts
+abbrev pub slotOk : Geometry → ℕ → Bool → Slot → Bool
+slotOk g k new e = cond (isUsed e) (every (tests (usedMusts g k new zeroSlot e))) (every (tests (emptyMusts zeroSlot e)))
 
 -- how many of the slots f are used, and of an image's
 abbrev pub usedIn : Geometry → (ℕ → Slot) → ℕ
@@ -39,23 +49,18 @@ usedIn g f = countBelow (g .s) (λ i. isUsed (f i))
 abbrev pub usedCount : List ℕ → Geometry → ℕ
 usedCount m g = usedIn g (slotOf m g)
 
--- a used slot of rank n, and how many have it
+-- a used slot of rank n
 abbrev pub hasRank : ℕ → Slot → Bool
 hasRank n e = every (isUsed e ∷ eqb (e .rank) n ∷ [])
 
-abbrev pub rankedIn : Geometry → (ℕ → Slot) → ℕ → ℕ
-rankedIn g f n = countBelow (g .s) (λ i. hasRank n (f i))
+-- slot i's rank is none of an earlier slot; a right one that is empty has rank 0
+abbrev pub newRank : (ℕ → Slot) → ℕ → Bool
+newRank f i = allBelow i (λ j. not (eqb (f j .rank) (f i .rank)))
 
-abbrev pub rankCount : List ℕ → Geometry → ℕ → ℕ
-rankCount m g n = rankedIn g (slotOf m g) n
-
--- each slot is right, where k are used
-unfoldable pub eachOk : List ℕ → Geometry → ℕ → Bool
-eachOk m g k = allBelow (g .s) (λ i. slotOk g k (slotOf m g i))
-
--- "their ranks are 1 to k, each once"
-unfoldable pub ranksOk : List ℕ → Geometry → ℕ → Bool
-ranksOk m g k = allBelow k (λ n. eqb (rankCount m g (n + 1)) 1)
+abbrev pub slotMusts : List ℕ → Geometry → ℕ → List (Must Spot)
+slotMusts m g i =
+    cond (isUsed (slotOf m g i)) (usedMusts g (usedCount m g) (newRank (slotOf m g) i) (fieldsAt (slotAt g i)) (slotOf m g i))
+    (emptyMusts (fieldsAt (slotAt g i)) (slotOf m g i))
 
 unfoldable pub slotsOk : List ℕ → Geometry → Bool
-slotsOk m g = every (eachOk m g (usedCount m g) ∷ ranksOk m g (usedCount m g) ∷ [])
+slotsOk m g = allBelow (g .s) (λ i. slotOk g (usedCount m g) (newRank (slotOf m g) i) (slotOf m g i))

@@ -3,44 +3,50 @@ use crate::Slot;
 use geometry::Geometry;
 ghost use mathlib.Core.Path.{_≡_};
 ghost use Prim.Native.Nat.{_≤_};
+ghost use lib.ListN.{length};
+ghost use Rattle.folds.specs.Every.{every};
+ghost use Rattle.rules.specs.Must.{tests};
 ghost use Rattle.geometry.specs.Frame.{Framed};
+ghost use Rattle.slots.specs.Record.{zeroSlot};
 ghost use Rattle.slots.specs.RecordLaws.{Small};
-ghost use Rattle.slots.specs.Slots.{emptyOk, usedOk, slotOk, usedCount, rankCount, slotsOk, eachOk, ranksOk};
+ghost use Rattle.slots.specs.Slots.{emptyMusts, usedMusts, slotOk, usedCount, slotsOk};
 
 fn empty_ok(r: Slot) -> bool
-    ensures { λ y. ⌜ y ≡ emptyOk r ⌝ }
+    ensures { λ y. ⌜ y ≡ every (tests (emptyMusts zeroSlot r)) ⌝ }
 {
     let block = r.block;
     (r.rank == 0) & (r.drive == 0) & (r.len == 0) & (block.0 == 0) & (r.last == 0)
 }
 
-fn used_ok(g: Geometry, k: usize, r: Slot) -> bool
+fn used_ok(g: Geometry, k: usize, new: bool, r: Slot) -> bool
     requires { ⌜ Small r ⌝ }
-    ensures { λ y. ⌜ y ≡ usedOk g k r ⌝ }
+    ensures { λ y. ⌜ y ≡ every (tests (usedMusts g k new zeroSlot r)) ⌝ }
 {
     let kind = r.kind;
     let len = r.len;
     let block = r.block;
     let rank = r.rank;
-    (1 <= kind)
+    (1 <= rank)
+        & (rank <= k)
+        & new
+        & (1 <= kind)
         & (kind <= 2)
         & (r.drive < g.d)
         & (1 <= len)
         & (len <= g.m)
         & (block.0 + len <= g.b)
         & (r.last == 0)
-        & (1 <= rank)
-        & (rank <= k)
 }
 
-fn slot_ok(g: Geometry, k: usize, r: Slot) -> bool
+// Is the slot right, where k are used and no earlier one has its rank, if new says so?
+fn slot_ok(g: Geometry, k: usize, new: bool, r: Slot) -> bool
     requires { ⌜ Small r ⌝ }
-    ensures { λ y. ⌜ y ≡ slotOk g k r ⌝ }
+    ensures { λ y. ⌜ y ≡ slotOk g k new r ⌝ }
 {
     if r.kind == 0 {
         empty_ok(r)
     } else {
-        used_ok(g, k, r)
+        used_ok(g, k, new, r)
     }
 }
 
@@ -60,47 +66,19 @@ pub fn used_count(image: &[u8], g: Geometry) -> usize
     k
 }
 
-// How many used slots have the rank.
-fn rank_count(image: &[u8], g: Geometry, rank: usize) -> usize
-    requires { ⌜ Framed (now image) g ⌝ }
-    ensures { λ r. ⌜ r ≡ rankCount (now (image .entry)) g rank ⌝ }
+// Each record is read once: the ranks of the slots passed are kept.
+fn each_ok(image: &[u8], g: Geometry, k: usize, kept: &mut [u32]) -> bool
+    requires { ⌜ Framed (now image) g × (k ≡ usedCount (now image) g) × (16 ≤ length (now kept)) ⌝ }
+    ensures { λ r. ⌜ r ≡ slotsOk (now (image .entry)) g ⌝ }
 {
     let n = g.s;
-    let mut k = 0;
+    let mut ok = true;
     let mut i = 0;
     while i < n {
         let r = crate::read_slot(image, g, i);
-        k += ((r.kind != 0) & (r.rank == rank)) as usize;
+        let new = octets::keep_new(kept, i, r.rank);
+        ok = ok & slot_ok(g, k, new, r);
         i += 1;
-    }
-    k
-}
-
-// Is each slot right, where k are used?
-fn each_ok(image: &[u8], g: Geometry, k: usize) -> bool
-    requires { ⌜ Framed (now image) g ⌝ }
-    ensures { λ r. ⌜ r ≡ eachOk (now (image .entry)) g k ⌝ }
-{
-    let n = g.s;
-    let mut ok = true;
-    let mut i = 0;
-    while i < n {
-        ok = ok & slot_ok(g, k, crate::read_slot(image, g, i));
-        i += 1;
-    }
-    ok
-}
-
-// Is each rank of 1 to k one slot's?
-fn ranks_ok(image: &[u8], g: Geometry, k: usize) -> bool
-    requires { ⌜ Framed (now image) g × (k ≤ 16) ⌝ }
-    ensures { λ r. ⌜ r ≡ ranksOk (now (image .entry)) g k ⌝ }
-{
-    let mut ok = true;
-    let mut n = 0;
-    while n < k {
-        ok = ok & (rank_count(image, g, n + 1) == 1);
-        n += 1;
     }
     ok
 }
@@ -109,6 +87,7 @@ pub fn slots_ok(image: &[u8], g: Geometry) -> bool
     requires { ⌜ Framed (now image) g ⌝ }
     ensures { λ r. ⌜ r ≡ slotsOk (now (image .entry)) g ⌝ }
 {
+    let mut kept = [0u32; 16];
     let k = used_count(image, g);
-    each_ok(image, g, k) & ranks_ok(image, g, k)
+    each_ok(image, g, k, &mut kept)
 }

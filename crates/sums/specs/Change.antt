@@ -125,7 +125,7 @@ module _ (s : List ℕ) (g : Geometry) (f : Framed s g) (d b n : ℕ) (w : Range
       (order r b)
 
   kept : SameCounts (put s at ys) s g
-  kept = same-counts (put s at ys) s g (front-put s g at ys (omega (arith, place-after-media g d b, f .placed .slots-is, f .placed .media-is)))
+  kept = same-counts (put s at ys) s g (front-put s g at ys (omega (arith, place-after-media g d b, f .placed .slots-end)))
 
   -- each row's sum changes by the old bytes and the new ones there, where the drive counts
   pub sum-put : counts s g d ≡ true → (r : ℕ) → r < g .b → rowSum (put s at ys) g r ≡ rowSum s g r ⊻ share g b (old ⊻ ys) r

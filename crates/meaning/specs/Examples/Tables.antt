@@ -10,10 +10,9 @@ use Rattle.folds.specs.Every.{every}
 use Rattle.folds.specs.All.{allBelow}
 use Rattle.folds.specs.Count.{countBelow}
 use Rattle.folds.specs.Least.{leastBelow}
-use Rattle.geometry.specs.Header.{rangesOk, offsetsOk, framedOk, slotAt, place}
-use Rattle.drives.specs.Table.{statesOk, newAddress, addressesOk, tableOk, driveOf, marked}
+use Rattle.geometry.specs.Header.{slotAt, place}
+use Rattle.drives.specs.Table.{driveOf, marked}
 use Rattle.slots.specs.Record.{slotOf, bytesOf}
-use Rattle.slots.specs.Slots.{slotOk, eachOk, ranksOk, slotsOk}
 use Rattle.slots.specs.Find.{emptySlot, better, bestOf, newestOf}
 use Rattle.slots.specs.Change.{released, lowerOne, lowered, dropped, droppedTo, dropOne}
 use Rattle.image.specs.Valid.{validImage}
@@ -34,7 +33,7 @@ abbrev pub Hold : List Row → Type 0
 Hold rows = map got rows ≡ map (λ (w : Row). w .want) rows
 
 computed : Hold table × Hold several × Hold (further.works ++ further.refusals) × Hold (works ++ refusals)
-unfolding decideOf stepImage stepRoom stepOutcome resetImage resetAnswer markImage markAnswer validImage framedOk rangesOk offsetsOk tableOk statesOk newAddress addressesOk slotsOk eachOk ranksOk slotOk slotOf slotAt place every allBelow countBelow leastBelow driveOf emptySlot newestOf bestOf better released lowered lowerOne dropped droppedTo dropOne marked bytesOf part put num toBe _⊻_ xorAll sourcesFrom gathered opOf sixteenOf tenOf listedOf ownOf resolvedOf listBytes sourceOf ownEntry driveBad entryBad firstBad noSense plainSense absentSense nestedSense
+unfolding decideOf stepImage stepRoom stepOutcome resetImage resetAnswer markImage markAnswer validImage slotOf slotAt place every allBelow countBelow leastBelow driveOf emptySlot newestOf bestOf better released lowered lowerOne dropped droppedTo dropOne marked bytesOf part put num toBe _⊻_ xorAll sourcesFrom gathered opOf sixteenOf tenOf listedOf ownOf resolvedOf listBytes sourceOf ownEntry driveBad entryBad firstBad noSense plainSense absentSense nestedSense
 computed = (refl, refl, refl, refl)
 
 -- C1 to C11 of 01

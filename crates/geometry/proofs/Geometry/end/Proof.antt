@@ -15,7 +15,7 @@ add-result : tie.Need-add-result
 add-result c =
     let args = c .before .before .before .args in
     let pre = c .before .before .before .pre in
-    omega (arith, media-small (args .self) (pre .ranges), slots-small (args .self) (pre .ranges), pre .media-is)
+    omega (arith, media-small (args .self) (pre .ranges), pre .media-low)
 
 pub end-spec : {M : Type 1} → statement M
 end-spec = tie.close (tie.spec mul-result mul-result-2 add-result (λ c. search needs))

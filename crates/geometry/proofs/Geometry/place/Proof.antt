@@ -29,7 +29,7 @@ add-result-2 : tie.Need-add-result-2
 add-result-2 c =
     let args = c .before .before .before .before .args in
     let pre = c .before .before .before .before .pre in
-    omega (arith, place-offset (args .self) (args .drive) (args .block .0) (pre .0 .ranges) (pre .1) (pre .2), slots-small (args .self) (pre .0 .ranges), pre .0 .media-is)
+    omega (arith, place-offset (args .self) (args .drive) (args .block .0) (pre .0 .ranges) (pre .1) (pre .2), pre .0 .media-low)
 
 returns : tie.Need-returns
 unfolding place

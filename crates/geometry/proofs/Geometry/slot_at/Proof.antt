@@ -23,7 +23,7 @@ add-result-2 : tie.Need-add-result-2
 add-result-2 c =
     let args = c .before .before .args in
     let pre = c .before .before .pre in
-    omega (arith, slot-offset (args .self) (args .i) (pre .0 .ranges) (pre .1), pre .0 .slots-is)
+    omega (arith, slot-offset (args .self) (args .i) (pre .0 .ranges) (pre .1), pre .0 .slots-end, pre .0 .media-low)
 
 returns : tie.Need-returns
 unfolding slotAt
