@@ -10,8 +10,8 @@ use Rattle.octets.specs.Octets.{Octets}
 use Rattle.folds.specs.declared.Found.the-variants.{At}
 use Rattle.geometry.specs.declared.Geometry.{Geometry}
 use Rattle.drives.specs.declared.Came.{Came}
-use Rattle.drives.specs.Table.{stateOf, addressOf, to, targetOf, secondaryOf, failed, driveOf}
-use Rattle.drives.specs.Facts.{table-addresses, address-lt}
+use Rattle.drives.specs.Table.{stateOf, addressOf, to, targetOf, secondaryOf, failed}
+use Rattle.drives.specs.Facts.{address-lt}
 use Rattle.drives.specs.Lookup.{drive-found, drive-inside}
 use Rattle.results.specs.Results.{Result}
 use Rattle.image.specs.Shelf.{Shelf, shelf-frame}

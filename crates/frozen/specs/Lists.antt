@@ -1,23 +1,21 @@
 -- Today's lists of checks beside 01's: each check says the same, but for the place where it is seen, and its answer is 01's bytes.
 use Prim.Native.Nat.{ℕ, zero, suc, _+_}
 use mathlib.Core.Bool.{Bool, true, false, cond}
-use mathlib.Core.List.{List, [], _∷_, _++_, map}
-use mathlib.Core.Path.{_≡_, refl, sym, ap, _∙_}
+use mathlib.Core.List.{List, [], _∷_, map}
+use mathlib.Core.Path.{_≡_, refl, ap, _∙_}
 use lib.Dec.{ltb}
 use Rattle.octets.specs.Number.{toBe}
 use Rattle.folds.specs.declared.Found.{Found}
 use Rattle.folds.specs.declared.Found.the-variants.{At, Nothing}
 use Rattle.rules.specs.Rule.{Rule, rule, first, first-append}
-use Rattle.folds.specs.Least.{index}
 use Rattle.drives.specs.declared.Came.{Came}
 use Rattle.drives.specs.Table.{driveOf, failed}
 use Rattle.sense.specs.declared.Answer.{Answer}
-use Rattle.sense.specs.declared.Answer.the-variants.{NestedAddress, NestedFailed, NestedRange}
 use Rattle.sense.specs.Answers.{numberOf}
 use Rattle.sense.specs.Sense.{senseOf, absentSense, nestedSense}
 use Rattle.command.specs.Command.{sourceOf}
 use Rattle.meaning.specs.declared.Fault.{Fault}
-use Rattle.meaning.specs.declared.Fault.the-variants.{Clear, Absent, Failed, Beyond}
+use Rattle.meaning.specs.declared.Fault.the-variants.{Clear, Failed, Beyond}
 use Rattle.meaning.specs.Sources.{driveBad, entryBad, orNext, firstBad}
 use Rattle.meaning.specs.Checks.{Check, isFault, faultAnswer}
 use Rattle.frozen.specs.Image as old

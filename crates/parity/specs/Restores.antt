@@ -20,8 +20,7 @@ use Rattle.geometry.specs.Frame.{Framed}
 use Rattle.geometry.specs.Places.{Range, place-after-media}
 use Rattle.geometry.specs.Written.{other-drive}
 use Rattle.drives.specs.declared.Came.{Came}
-use Rattle.drives.specs.Table.{addressOf, failed, to, sourceDrive, driveOf}
-use Rattle.drives.specs.Facts.{table-addresses}
+use Rattle.drives.specs.Table.{addressOf, failed, to, sourceDrive}
 use Rattle.drives.specs.Front.{SameFront, front-put, failed-same, drive-same}
 use Rattle.drives.specs.Lookup.{drive-found}
 use Rattle.results.specs.Lists.{map-same}
