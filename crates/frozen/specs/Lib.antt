@@ -6,4 +6,5 @@ pub mod Step
 pub mod Judged
 pub mod Alike
 pub mod Lists
+pub mod Order
 pub mod Today

@@ -10,13 +10,14 @@ use Rattle.octets.specs.Put.{put}
 use Rattle.octets.specs.Xor.{_⊻_}
 use Rattle.octets.specs.Number.{be, toBe}
 use Rattle.folds.specs.declared.Found.{Found}
-use Rattle.rules.specs.Rule.{rule, first, first-append}
+use Rattle.rules.specs.Rule.{rule, first, first-append, first-both, AllPass, none-decides}
 use Rattle.folds.specs.Least.{index}
 use Rattle.geometry.specs.declared.Geometry.{Geometry}
 use Rattle.geometry.specs.Header.{geometryOf, slotAt, place}
 use Rattle.drives.specs.Table.{driveOf, to, marked}
 use Rattle.slots.specs.Record.{slotOf}
 use Rattle.slots.specs.Record as slots
+use Rattle.slots.specs.Change.{released}
 use Rattle.slots.specs.Find.{emptySlot}
 use Rattle.sense.specs.declared.Answer.{Answer}
 use Rattle.sense.specs.declared.Answer.the-variants.{Good, WrongCount}
@@ -31,16 +32,17 @@ use Rattle.meaning.specs.declared.Decision.{Decision}
 use Rattle.meaning.specs.declared.Decision.the-variants.{Stop, Go}
 use Rattle.meaning.specs.declared.Act.the-variants.{XdRead as ToXdRead, Couple, Retain}
 use Rattle.meaning.specs.declared.Seen.the-variants.{Dash}
-use Rattle.meaning.specs.Acts.{store, stored, slotStores}
 use Rattle.meaning.specs.Sources.{ownEntry, firstBad}
 use Rattle.meaning.specs.Checks.{Check, calls, cdbCalls, known, fields, sends, idle, lists, ranges, busy, sourceRules, checks, carriedOut, decideFor, decideOf}
 use Rattle.meaning.specs.Step.{answered, untouched, imageAfter, roomAfter, outcomeAfter, stepImage, stepRoom, stepOutcome, resetAnswer, resetImage, markCalls, markAnswer, markImage}
+use Rattle.grants.specs.Granted.{granted-by}
 use Rattle.meaning.specs.Codes.{isPublished, same-op}
 use Rattle.frozen.specs.Image as old
 use Rattle.frozen.specs.Results as then
 use Rattle.frozen.specs.Answers as told
 use Rattle.frozen.specs.Commands as was
 use Rattle.frozen.specs.Step as signed
+use Rattle.frozen.specs.Order.{retain-order, couple-order}
 use Rattle.frozen.specs.Alike.{released-alike, dropped-alike, newest-alike, gathered-alike}
 use Rattle.frozen.specs.Judged.{valid-alike}
 use Rattle.frozen.specs.Lists.{bytesOf, forget, first-forget, first-view, byFault, sources-alike}
@@ -79,17 +81,19 @@ module _ (m : List ℕ) (a : ℕ) (c s r : List ℕ) where
   abbrev Same : Op → was.Plan → Type 0
   Same o p = view (decideFor o m (to a) c s (length r)) ≡ signed.byPlan p m a c r
 
-  -- the lists are alike, and so is what stands where no check applies
-  by-lists : (o : Op) (p : was.Plan) (us : List was.Check) → map forget (checks o m (to a) c s (length r)) ≡ us
-      → first refuse us (view (carriedOut o m (to a) c s)) ≡ signed.byPlan p m a c r → Same o p
-  by-lists o p us e q =
-      first-view view Stop (checks o m (to a) c s (length r)) (carriedOut o m (to a) c s)
-      ∙ sym (first-forget refuse (checks o m (to a) c s (length r)) (view (carriedOut o m (to a) c s)))
-      ∙ ap (λ (rs : List was.Check). first refuse rs (view (carriedOut o m (to a) c s))) e
-      ∙ q
-
   abbrev carry : was.Done → signed.Outcome
   carry d = signed.carryOut d r
+
+  -- the lists are alike, and so is what is done where no check applies
+  by-lists : (o : Op) (p : was.Plan) (us : List was.Check) (d : signed.Outcome) → map forget (checks o m (to a) c s (length r)) ≡ us
+      → (AllPass (checks o m (to a) c s (length r)) → view (carriedOut o m (to a) c s) ≡ d) → first refuse us d ≡ signed.byPlan p m a c r → Same o p
+  by-lists o p us d e k q =
+      let rs = checks o m (to a) c s (length r) in
+      first-view view Stop rs (carriedOut o m (to a) c s)
+      ∙ first-both (λ n w x. view (Stop n w x)) (λ n w x. view (Stop n w x)) _≡_ rs (view (carriedOut o m (to a) c s)) d (λ n w x. refl) k
+      ∙ sym (first-forget refuse rs d)
+      ∙ ap (λ (rs : List was.Check). first refuse rs d) e
+      ∙ q
 
   -- READ, WRITE and XPWRITE, and a code that is unknown, whose data-out bytes nobody asks for
   abbrev unknown : was.Plan
@@ -98,46 +102,51 @@ module _ (m : List ℕ) (a : ℕ) (c s r : List ℕ) where
   plain : Same Read (was.read m h t c s (length r)) × Same Write (was.write m h t c s (length r)) × Same XpWrite (was.xpwrite m h t c s (length r)) × Same Unknown unknown
   unfolding slotOf slotAt place driveOf tenOf noSense plainSense toBe
   plain = (
-    by-lists Read (was.read m h t c s (length r)) (ahead 10 ++ was.read m h t c s (length r) .checks) (rw (valid-alike m)) refl,
-    by-lists Write (was.write m h t c s (length r)) (ahead 10 ++ was.write m h t c s (length r) .checks) (rw (valid-alike m)) refl,
-    by-lists XpWrite (was.xpwrite m h t c s (length r)) (ahead 10 ++ was.xpwrite m h t c s (length r) .checks) (rw (valid-alike m)) refl,
-    by-lists Unknown unknown (ahead 0 ++ was.sends 0 s ∷ []) (rw (valid-alike m)) refl,
+    by-lists Read (was.read m h t c s (length r)) (ahead 10 ++ was.read m h t c s (length r) .checks) _ (rw (valid-alike m)) (λ p. refl) refl,
+    by-lists Write (was.write m h t c s (length r)) (ahead 10 ++ was.write m h t c s (length r) .checks) _ (rw (valid-alike m)) (λ p. refl) refl,
+    by-lists XpWrite (was.xpwrite m h t c s (length r)) (ahead 10 ++ was.xpwrite m h t c s (length r) .checks) _ (rw (valid-alike m)) (λ p. refl) refl,
+    by-lists Unknown unknown (ahead 0 ++ was.sends 0 s ∷ []) _ (rw (valid-alike m)) (λ p. refl) refl,
   )
 
   -- XDREAD: the same result answers, and goes
   xdread : Same XdRead (was.xdread m h t c s (length r))
-  unfolding slotOf slotAt place driveOf tenOf noSense plainSense toBe
+  unfolding released slotOf slotAt place driveOf tenOf noSense plainSense toBe
   xdread =
       let f = newest-alike m h t (was.block c) in
       let p = was.xdreadFrom m h t c s (length r) in
       let i = index (then.newest m h t (was.block c)) in
-      by-lists XdRead (was.xdread m h t c s (length r)) (ahead 10 ++ was.xdread m h t c s (length r) .checks)
+      by-lists XdRead (was.xdread m h t c s (length r)) (ahead 10 ++ was.xdread m h t c s (length r) .checks) (carry (was.xdread m h t c s (length r) .done))
       (rw (valid-alike m) (ap (λ (x : Found). ahead 10 ++ p x .checks) f))
-      (ap (first refuse (ahead 10 ++ was.xdread m h t c s (length r) .checks))
-      (ap (λ (x : Found). view (Go (ToXdRead (spanAt (was.block c) (was.count c)) (index x)) Good)) f
-      ∙ ap (λ (x : List ℕ). carry (record { image = x; hands = p (then.newest m h t (was.block c)) .done .hands })) (released-alike h m i)))
+      (λ q. ap (λ (x : Found). view (Go (ToXdRead (spanAt (was.block c) (was.count c)) (index x)) Good)) f
+      ∙ ap (λ (x : List ℕ). carry (record { image = x; hands = p (then.newest m h t (was.block c)) .done .hands })) (released-alike h m i))
+      refl
 
   -- XDWRITE: retained, with the data written or not, or sent to the secondary
-  retain-alike : (i b n : ℕ) (bytes : List ℕ) (writes : Bool)
-      → stored m (cond writes (store (place g t b) s ∷ []) [] ++ slotStores m g i 1 (spanAt b n) bytes) ≡ then.retainedOver (cond writes (put m (old.blockAt h t b) s) m) m h i 1 t b n bytes
-  unfolding slotOf slotAt place slots.bytesOf
-  retain-alike i b n bytes true = refl
-  retain-alike i b n bytes false = refl
-
   xdwrite : Same XdWrite (was.xdwrite m h t c s)
   unfolding slotOf slotAt place driveOf emptySlot slots.bytesOf sixteenOf noSense plainSense absentSense nestedSense toBe
   xdwrite =
-      by-lists XdWrite (was.xdwrite m h t c s) (ahead 16 ++ was.xdwrite m h t c s .checks) (rw (valid-alike m))
-      (ap (first refuse (ahead 16 ++ was.xdwrite m h t c s .checks)) (pick (eqb (was.secCtl c) 3)))
+      by-lists XdWrite (was.xdwrite m h t c s) (ahead 16 ++ was.xdwrite m h t c s .checks) (carry (was.xdwrite m h t c s .done)) (rw (valid-alike m))
+      (λ p. pick (eqb (was.secCtl c) 3) (none-decides Stop (checks XdWrite m (to a) c s (length r)) (carriedOut XdWrite m (to a) c s) p))
+      refl
     where
       x : Span
       x = spanAt (was.block c) (was.many c)
 
-      pick : (b : Bool)
-          → view (cond b (Go (Retain x (index (then.emptySlot m h)) (was.mirror c) (was.ndisc c)) Good) (Go (Couple x (record { drive = index (was.second m h t c s); block = record { 0 = be 4 c 11 }; count = was.many c }) (was.mirror c)) Good))
+      y : Span
+      y = record { drive = index (was.second m h t c s); block = record { 0 = be 4 c 11 }; count = was.many c }
+
+      i : ℕ
+      i = index (then.emptySlot m h)
+
+      pick : (b : Bool) → decideFor XdWrite m (to a) c s (length r) ≡ cond b (Go (Retain x i (was.mirror c) (was.ndisc c)) Good) (Go (Couple x y (was.mirror c)) Good)
+          → view (cond b (Go (Retain x i (was.mirror c) (was.ndisc c)) Good) (Go (Couple x y (was.mirror c)) Good))
           ≡ carry (cond b (was.leaves (was.toSlot m h t c s)) (was.leaves (was.toSecond m h t c s)))
-      pick true = ap (λ (y : List ℕ). carry (was.leaves y)) (retain-alike (index (then.emptySlot m h)) (was.block c) (was.many c) (was.result m h t c s) (eqb (was.ndisc c) 0))
-      pick false = refl
+      pick true e =
+          let f = granted-by XdWrite m (to a) c s (length r) (Retain x i (was.mirror c) (was.ndisc c)) Good e in
+          ap (λ (z : List ℕ). carry (was.leaves z)) (retain-order m g (f .valid) s (length r) x i (was.mirror c) (was.ndisc c) (f .allowed))
+      pick false e =
+          let f = granted-by XdWrite m (to a) c s (length r) (Couple x y (was.mirror c)) Good e in
+          ap (λ (z : List ℕ). carry (was.leaves z)) (couple-order m g (f .valid) s (length r) x y (was.mirror c) (f .allowed))
 
   -- REBUILD and REGENERATE: the checks in front of the source entries' are alike, and then those
   abbrev before : Op → List Check
