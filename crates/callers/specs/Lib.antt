@@ -15,5 +15,6 @@ pub mod Listed
 pub mod IdleLists
 pub mod Rebuilds
 pub mod Operands
+pub mod Example
 pub mod Next
 pub mod Drives
