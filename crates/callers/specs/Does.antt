@@ -21,6 +21,7 @@ use Rattle.meaning.specs.declared.Span.{Span}
 use Rattle.meaning.specs.declared.Sum.{Sum}
 use Rattle.meaning.specs.Acts.{Over}
 use Rattle.meaning.specs.Step.{stepOutcome, stepRoom, stepImage}
+pub use Rattle.demands_one_two.specs.Effects.{resultIn}
 use Rattle.callers.specs.After.{After}
 
 -- what is summed by a command that came as a, with Int Data or not

@@ -1,0 +1,1 @@
+// Calls one after the other, known by the callers' laws alone.
