@@ -33,6 +33,7 @@ newAddress m g i = allBelow i (λ j. not (eqb (addressOf m g j) (addressOf m g i
 abbrev pub entryMusts : List ℕ → Geometry → ℕ → List (Must Spot)
 entryMusts m g i = must (Byte (entryAt g i)) (leb (stateOf m g i) 1) ∷ must (Byte (entryAt g i + 1)) (newAddress m g i) ∷ []
 
+-- every entry is right
 unfoldable pub tableOk : List ℕ → Geometry → Bool
 tableOk m g = allBelow (g .d) (λ i. every (tests (entryMusts m g i)))
 

@@ -39,7 +39,6 @@ pub record Framed (s : List ℕ) (g : Geometry) : Type 0 where
   pub media-end : endOf g ≤ length s
 
 pub in-range : (g : Geometry) → rangesOk g ≡ true → InRange g
-unfolding rangesOk
 in-range g e =
     record {
       d-low = leb-true _ _ (holds _ 0 e);
@@ -71,7 +70,6 @@ module _ (g : Geometry) (r : InRange g) where
 -- ---- what the tests say
 
 pub placed : (g : Geometry) → rangesOk g ≡ true → offsetsOk g ≡ true → Placed g
-unfolding offsetsOk
 placed g r e =
     let ranges = in-range g r in
     let table : g .table ≡ 32 = eqb-true _ _ (holds _ 0 e) in
@@ -99,7 +97,7 @@ framed-same s s′ g f e = record { placed = f .placed; media-end = omega arith 
 
 -- what must hold of the header and of the length, taken together
 pub header-ok : (m : List ℕ) → every (tests (headerMusts m)) ≡ framedOk m
-unfolding framedOk rangesOk offsetsOk every
+unfolding framedOk every
 header-ok m =
     let g = geometryOf m in
     let end : List (Must Spot) = must Length (eqb (length m) (endOf g)) ∷ [] in

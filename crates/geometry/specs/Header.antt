@@ -45,7 +45,7 @@ rangeMusts g =
     ∷ must (Byte 16) (leb (g .m) 256)
     ∷ []
 
-unfoldable pub rangesOk : Geometry → Bool
+abbrev pub rangesOk : Geometry → Bool
 rangesOk g = every (tests (rangeMusts g))
 
 -- "Drive table at 32: per drive 4 bytes"
@@ -66,7 +66,7 @@ slotsEnd g = tableEnd g + g .s * slotSize g
 abbrev pub offsetMusts : Geometry → List (Must Spot)
 offsetMusts g = must (Byte 20) (eqb (g .table) 32) ∷ must (Byte 24) (eqb (g .slots) (tableEnd g)) ∷ must (Byte 28) (eqb (g .media) (slotsEnd g)) ∷ []
 
-unfoldable pub offsetsOk : Geometry → Bool
+abbrev pub offsetsOk : Geometry → Bool
 offsetsOk g = every (tests (offsetMusts g))
 
 -- "The image ends there, D*B*L bytes on."
@@ -79,6 +79,7 @@ headerMusts m =
     must Length (leb 32 (length m))
     ∷ (rangeMusts (geometryOf m) ++ offsetMusts (geometryOf m) ++ must Length (eqb (length m) (endOf (geometryOf m))) ∷ [])
 
+-- the same tests by stages, as the code makes them
 unfoldable pub framedOk : List ℕ → Bool
 framedOk m =
     every

@@ -53,14 +53,19 @@ usedCount m g = usedIn g (slotOf m g)
 abbrev pub hasRank : ℕ → Slot → Bool
 hasRank n e = every (isUsed e ∷ eqb (e .rank) n ∷ [])
 
--- slot i's rank is none of an earlier slot; a right one that is empty has rank 0
+-- a used slot's rank; an empty one has none
+abbrev pub rankIn : Slot → ℕ
+rankIn e = cond (isUsed e) (e .rank) 0
+
+-- slot i's rank is none of an earlier one
 abbrev pub newRank : (ℕ → Slot) → ℕ → Bool
-newRank f i = allBelow i (λ j. not (eqb (f j .rank) (f i .rank)))
+newRank f i = allBelow i (λ j. not (eqb (rankIn (f j)) (rankIn (f i))))
 
 abbrev pub slotMusts : List ℕ → Geometry → ℕ → List (Must Spot)
 slotMusts m g i =
     cond (isUsed (slotOf m g i)) (usedMusts g (usedCount m g) (newRank (slotOf m g) i) (fieldsAt (slotAt g i)) (slotOf m g i))
     (emptyMusts (fieldsAt (slotAt g i)) (slotOf m g i))
 
+-- every slot is right
 unfoldable pub slotsOk : List ℕ → Geometry → Bool
 slotsOk m g = allBelow (g .s) (λ i. slotOk g (usedCount m g) (newRank (slotOf m g) i) (slotOf m g i))
