@@ -11,7 +11,7 @@ use Rattle.folds.specs.Every.{every, holds, every-of}
 use Rattle.folds.specs.All.{all-at, all-intro}
 use Rattle.folds.specs.declared.Found.the-variants.{At}
 use Rattle.folds.specs.Least.{least-inside}
-use Rattle.rules.specs.Must.{tests}
+use Rattle.rules.specs.Must.{testsOf}
 use Rattle.geometry.specs.declared.Geometry.{Geometry}
 use Rattle.slots.specs.declared.Slot.{Slot}
 use Rattle.slots.specs.Record.{slotOf, zeroSlot, isUsed}
@@ -32,7 +32,7 @@ pub record Used (g : Geometry) (k : ℕ) (r : Slot) : Type 0 where
 module _ (g : Geometry) (k : ℕ) (new : Bool) (r : Slot) where
   pub used-facts : isUsed r ≡ true → slotOk g k new r ≡ true → Used g k r × (new ≡ true)
   used-facts u ok =
-      let e : every (tests (usedMusts g k new zeroSlot r)) ≡ true = rw u at ok in (
+      let e : every (testsOf (usedMusts g k new zeroSlot r)) ≡ true = rw u at ok in (
         record {
           rank-low = leb-true _ _ (holds _ 0 e);
           rank-high = leb-true _ _ (holds _ 1 e);
@@ -50,7 +50,7 @@ module _ (g : Geometry) (k : ℕ) (new : Bool) (r : Slot) where
   pub used-ok : isUsed r ≡ true → Used g k r → new ≡ true → slotOk g k new r ≡ true
   used-ok u h n =
       rw u
-      (every-of (tests (usedMusts g k new zeroSlot r)) (
+      (every-of (testsOf (usedMusts g k new zeroSlot r)) (
         le-leb _ _ (h .rank-low),
         (
           le-leb _ _ (h .rank-high),
@@ -76,7 +76,7 @@ module _ (g : Geometry) (k : ℕ) (new : Bool) (r : Slot) where
   -- an empty slot that is right is all zero, and the other way round
   pub empty-is : isUsed r ≡ false → slotOk g k new r ≡ true → r ≡ zeroSlot
   empty-is u ok =
-      let e : every (tests (emptyMusts zeroSlot r)) ≡ true = rw u at ok in
+      let e : every (testsOf (emptyMusts zeroSlot r)) ≡ true = rw u at ok in
       let z0 : r .kind ≡ 0 = eqb-true _ _ (not-false _ u) in
       let z1 : r .rank ≡ 0 = eqb-true _ _ (holds _ 0 e) in
       let z2 : r .drive ≡ 0 = eqb-true _ _ (holds _ 1 e) in

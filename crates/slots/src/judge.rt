@@ -5,14 +5,14 @@ ghost use mathlib.Core.Path.{_≡_};
 ghost use Prim.Native.Nat.{_<_, _≤_};
 ghost use lib.ListN.{length};
 ghost use Rattle.folds.specs.Every.{every};
-ghost use Rattle.rules.specs.Must.{tests};
+ghost use Rattle.rules.specs.Must.{testsOf};
 ghost use Rattle.geometry.specs.Frame.{Framed};
 ghost use Rattle.slots.specs.Record.{zeroSlot};
 ghost use Rattle.slots.specs.RecordLaws.{Small};
 ghost use Rattle.slots.specs.Slots.{emptyMusts, usedMusts, slotOk, usedCount, rankIn, slotsOk};
 
 fn empty_ok(r: Slot) -> bool
-    ensures { λ y. ⌜ y ≡ every (tests (emptyMusts zeroSlot r)) ⌝ }
+    ensures { λ y. ⌜ y ≡ every (testsOf (emptyMusts zeroSlot r)) ⌝ }
 {
     let block = r.block;
     (r.rank == 0) & (r.drive == 0) & (r.len == 0) & (block.0 == 0) & (r.last == 0)
@@ -20,7 +20,7 @@ fn empty_ok(r: Slot) -> bool
 
 fn used_ok(g: Geometry, k: usize, new: bool, r: Slot) -> bool
     requires { ⌜ Small r ⌝ }
-    ensures { λ y. ⌜ y ≡ every (tests (usedMusts g k new zeroSlot r)) ⌝ }
+    ensures { λ y. ⌜ y ≡ every (testsOf (usedMusts g k new zeroSlot r)) ⌝ }
 {
     let kind = r.kind;
     let len = r.len;
