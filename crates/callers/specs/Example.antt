@@ -16,7 +16,7 @@ use Rattle.folds.specs.Every.{every}
 use Rattle.folds.specs.All.{allBelow}
 use Rattle.folds.specs.Count.{countBelow}
 use Rattle.folds.specs.Least.{leastBelow}
-use Rattle.geometry.specs.Header.{rangesOk, offsetsOk, framedOk, slotAt, place}
+use Rattle.geometry.specs.Header.{framedOk, slotAt, place}
 use Rattle.drives.specs.declared.Came.{Came}
 use Rattle.drives.specs.Table.{tableOk, driveOf, to, sourceDrive, failed}
 use Rattle.slots.specs.Record.{slotOf}
@@ -71,7 +71,7 @@ started :
     Shelf afterC2 benchShape
     × Shelf (shelfOf 0 (left result) fresh two three) benchShape
     × Shelf (shelfOf 0 vacant zeros two three) benchShape
-unfolding framedOk rangesOk offsetsOk tableOk slotsOk slotOf slotAt every allBelow countBelow part num
+unfolding framedOk tableOk slotsOk slotOf slotAt every allBelow countBelow part num
 started = (
   record { header = refl; framed-ok = refl; table-ok = refl; slots-ok = refl },
   record { header = refl; framed-ok = refl; table-ok = refl; slots-ok = refl },

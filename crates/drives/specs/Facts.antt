@@ -11,14 +11,14 @@ use Rattle.octets.specs.Number.{be-lt}
 use Rattle.folds.specs.Cases.{same, apart}
 use Rattle.folds.specs.Every.{every, holds}
 use Rattle.folds.specs.All.{all-at}
-use Rattle.rules.specs.Must.{tests}
+use Rattle.rules.specs.Must.{testsOf}
 use Rattle.geometry.specs.declared.Geometry.{Geometry}
 use Rattle.geometry.specs.Header.{entryAt}
 use Rattle.geometry.specs.Frame.{Framed}
 use Rattle.drives.specs.Table.{addressOf, entryMusts, tableOk}
 
 module _ (s : List ℕ) (g : Geometry) where
-  pub entry-ok : tableOk s g ≡ true → (i : ℕ) → i < g .d → every (tests (entryMusts s g i)) ≡ true
+  pub entry-ok : tableOk s g ≡ true → (i : ℕ) → i < g .d → every (testsOf (entryMusts s g i)) ≡ true
   unfolding tableOk
   entry-ok ok i l = all-at _ (g .d) i ok l
 

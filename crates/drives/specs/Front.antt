@@ -12,7 +12,7 @@ use Rattle.octets.specs.Number.{front-be}
 use Rattle.folds.specs.Every.{every-ext}
 use Rattle.folds.specs.All.{all-ext}
 use Rattle.folds.specs.Least.{least-ext}
-use Rattle.rules.specs.Must.{tests}
+use Rattle.rules.specs.Must.{testsOf}
 use Rattle.geometry.specs.declared.Geometry.{Geometry}
 use Rattle.geometry.specs.Header.{geometryOf, entryAt}
 use Rattle.geometry.specs.Frame.{Placed}
@@ -55,7 +55,7 @@ module _ (s t : List ℕ) (g : Geometry) (p : Placed g) (e : SameFront s t g) wh
   pub table-same : tableOk s g ≡ tableOk t g
   unfolding tableOk
   table-same =
-      all-ext _ _ (g .d) (λ i l. every-ext (tests (entryMusts s g i)) (tests (entryMusts t g i)) (ap (λ (k : ℕ). leb k 1) (state-same i l), (new-ext s t g address-same i l, tt)))
+      all-ext _ _ (g .d) (λ i l. every-ext (testsOf (entryMusts s g i)) (testsOf (entryMusts t g i)) (ap (λ (k : ℕ). leb k 1) (state-same i l), (new-ext s t g address-same i l, tt)))
 
   pub geometry-same : geometryOf s ≡ geometryOf t
   geometry-same = front-geometry s t (g .slots) e (omega arith)

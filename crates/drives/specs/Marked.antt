@@ -15,7 +15,7 @@ use Rattle.octets.specs.Number.{be-put-apart}
 use Rattle.folds.specs.Cases.{same, apart, order}
 use Rattle.folds.specs.Every.{holds, every-of}
 use Rattle.folds.specs.All.{all-intro}
-use Rattle.rules.specs.Must.{tests}
+use Rattle.rules.specs.Must.{testsOf}
 use Rattle.geometry.specs.declared.Geometry.{Geometry}
 use Rattle.geometry.specs.Header.{geometryOf, entryAt}
 use Rattle.geometry.specs.Frame.{Placed, Framed}
@@ -65,7 +65,7 @@ module _ (s : List ℕ) (g : Geometry) (i state : ℕ) where
     unfolding tableOk
     table-marked h ok =
         all-intro _ (g .d)
-        (λ j lj. every-of (tests (entryMusts (marked s g i state) g j)) (
+        (λ j lj. every-of (testsOf (entryMusts (marked s g i state) g j)) (
           ⊎-elim (λ (q : j ≡ i). rw (q, state-marked) (le-leb state 1 h)) (λ ne. rw (state-marked-other j ne) (holds _ 0 (entry-ok s g ok j lj))) (same j i),
           (new-ext (marked s g i state) s g (λ k l. address-marked k) j lj ∙ holds _ 1 (entry-ok s g ok j lj), tt),
         ))

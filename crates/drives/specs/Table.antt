@@ -10,10 +10,10 @@ use Rattle.folds.specs.Every.{every}
 use Rattle.folds.specs.All.{allBelow}
 use Rattle.folds.specs.Least.{leastBelow}
 use Rattle.geometry.specs.declared.Geometry.{Geometry}
-use Rattle.geometry.specs.Header.{entryAt, Spot, Byte}
+use Rattle.rules.specs.Must.{Must, must, testsOf}
+use Rattle.geometry.specs.Header.{Site, Byte, entryAt}
 use Rattle.geometry.specs.Stores.{Store, store, Table, stored}
 use Rattle.drives.specs.declared.Came.{Came}
-use Rattle.rules.specs.Must.{Must, must, tests}
 
 -- "per drive 4 bytes, state .. and a 3-byte address"
 abbrev pub stateOf : List ℕ → Geometry → ℕ → ℕ
@@ -31,11 +31,12 @@ abbrev pub newAddress : List ℕ → Geometry → ℕ → Bool
 newAddress m g i = allBelow i (λ j. not (eqb (addressOf m g j) (addressOf m g i)))
 
 -- drive i's entry: "state (0 present, 1 failed)", and its address, seen where it repeats
-abbrev pub entryMusts : List ℕ → Geometry → ℕ → List (Must Spot)
+abbrev pub entryMusts : List ℕ → Geometry → ℕ → List (Must Site)
 entryMusts m g i = must (Byte (entryAt g i)) (leb (stateOf m g i) 1) ∷ must (Byte (entryAt g i + 1)) (newAddress m g i) ∷ []
 
+-- every entry is right
 unfoldable pub tableOk : List ℕ → Geometry → Bool
-tableOk m g = allBelow (g .d) (λ i. every (tests (entryMusts m g i)))
+tableOk m g = allBelow (g .d) (λ i. every (testsOf (entryMusts m g i)))
 
 -- the drive with address a, compared as a whole number
 unfoldable pub driveOf : List ℕ → Geometry → ℕ → Found

@@ -8,7 +8,7 @@ use mathlib.Core.Path.{_≡_, ap, sym, _∙_}
 use mathlib.Core.Logic.{_⊎_, inl, inr, ⊎-elim}
 use lib.Dec.{ltb, eqb}
 use borrow.Author.Tests.{ltb-true, lt-ltb, le-ltb, eqb-true, eq-eqb}
-use Rattle.folds.specs.Cases.{order, same, agree, last-or-below}
+use Rattle.folds.specs.Cases.{order, agree, last-or-below}
 use Rattle.folds.specs.Count.{countBelow, count-some, count-pos, count-zero, count-ext, count-gone}
 
 -- the numbers below s that have p have values r, no two the same
@@ -51,23 +51,21 @@ module _ (p : ℕ → Bool) (r : ℕ → ℕ) (s : ℕ) (apart : (i j : ℕ) →
       (rw u (le-ltb (r i) b (omega arith)))
       (λ j lj ne. sym (low-same b j (λ v q. ne (apart j i lj l v u (q ∙ sym e)))))
 
-  few : (b : ℕ) → countBelow s (low b) ≤ b
-  few zero = omega (arith, count-zero (low zero) s (λ i l. low-zero i))
-    where
-      low-zero : (i : ℕ) → low zero i ≡ false
-      low-zero i = ap (λ (t : Bool). p i && t) (le-ltb (r i) 0 (omega arith)) ∙ and-false (p i)
-  few (suc b) = ⊎-elim (λ h. omega (arith, met b h, few b)) (λ h. omega (arith, missed b h, few b)) (hit-or-not b)
+  none-low : (i : ℕ) → low zero i ≡ false
+  none-low i = ap (λ (t : Bool). p i && t) (le-ltb (r i) 0 (omega arith)) ∙ and-false (p i)
 
-  fewer : (n b : ℕ) → n < b → (Hit n → ⊥) → countBelow s (low b) < b
-  fewer n zero l never = absurd (not-suc-le-zero l)
-  fewer n (suc b) l never =
-      ⊎-elim (λ e. omega (arith, missed b (λ h. never (rw e h)), few b))
-      (λ k. ⊎-elim (λ h. omega (arith, met b h, fewer n b k never)) (λ h. omega (arith, missed b h, fewer n b k never)) (hit-or-not b))
-      (last-or-below l)
+  -- as many as there are values below b: each of these is met
+  full : (b : ℕ) → (countBelow s (low b) ≤ b) × (countBelow s (low b) ≡ b → (n : ℕ) → n < b → Hit n)
+  full zero = (omega (arith, count-zero (low zero) s (λ i l. none-low i)), λ e n l. absurd (not-suc-le-zero l))
+  full (suc b) =
+      let w = full b in
+      ⊎-elim (λ h. (omega (arith, met b h, w .0), λ e n l. ⊎-elim (λ q. rw q h) (λ k. w .1 (omega (arith, met b h)) n k) (last-or-below l)))
+      (λ h. (omega (arith, missed b h, w .0), λ e n l. absurd (omega (arith, missed b h, w .0))))
+      (hit-or-not b)
 
   pub onto : ((i : ℕ) → i < s → p i ≡ true → r i < countBelow s p) → (n : ℕ) → n < countBelow s p → Hit n
-  onto inside n l =
+  onto inside =
       let k = countBelow s p in
-      let all : countBelow s (low k) ≡ k =
-      count-ext (low k) p s (λ i li. agree (low k i) (p i) (λ e. and-eq-true-iff (p i) (ltb (r i) k) .0 e .0) (λ u. and-eq-true-iff (p i) (ltb (r i) k) .1 (u, lt-ltb _ _ (inside i li u)))) in
-      ⊎-elim (λ h. h) (λ never. absurd (omega (arith, all, fewer n k l never))) (hit-or-not n)
+      full k .1
+      (count-ext (low k) p s
+      (λ i li. agree (low k i) (p i) (λ e. and-eq-true-iff (p i) (ltb (r i) k) .0 e .0) (λ u. and-eq-true-iff (p i) (ltb (r i) k) .1 (u, lt-ltb _ _ (inside i li u)))))

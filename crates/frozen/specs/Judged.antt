@@ -10,7 +10,7 @@ use Rattle.folds.specs.Every.{every, holds, every-of, every-ext}
 use Rattle.folds.specs.All.{allBelow, all-at, all-intro}
 use Rattle.folds.specs.Count.{countBelow, count-unique, count-just}
 use Rattle.geometry.specs.declared.Geometry.{Geometry}
-use Rattle.geometry.specs.Header.{geometryOf, rangesOk, offsetsOk, framedOk, slotAt}
+use Rattle.geometry.specs.Header.{geometryOf, framedOk, slotAt}
 use Rattle.drives.specs.Table.{tableOk}
 use Rattle.slots.specs.declared.Slot.{Slot}
 use Rattle.slots.specs.Record.{slotOf, isUsed}
@@ -99,5 +99,5 @@ module _ (m : List ℕ) where
       (λ e. right-ok m g (right-of (λ i l. of-old i (all-at oldOk (g .s) i (holds _ 0 e) l)) (λ n l. eqb-true _ _ (all-at _ k n (holds _ 1 e) l))))
 
   pub valid-alike : validImage m ≡ old.valid m
-  unfolding framedOk rangesOk offsetsOk tableOk
+  unfolding framedOk tableOk
   valid-alike = valid-is m ∙ every-ext _ _ (refl, (both-below _ _ (g .d), (slots-alike, tt)))

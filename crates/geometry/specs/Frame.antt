@@ -9,9 +9,9 @@ use lib.ListN.{length}
 use lib.Dec.{leb, eqb}
 use borrow.Author.Tests.{leb-true, eqb-true}
 use Rattle.folds.specs.Every.{every, holds}
-use Rattle.rules.specs.Must.{Must, must, tests, every-both}
+use Rattle.rules.specs.Must.{Must, must, testsOf, every-both}
 use Rattle.geometry.specs.declared.Geometry.{Geometry}
-use Rattle.geometry.specs.Header.{geometryOf, Spot, Length, rangeMusts, offsetMusts, headerMusts, rangesOk, offsetsOk, framedOk, stride, slotSize, tableEnd, slotsEnd, endOf}
+use Rattle.geometry.specs.Header.{geometryOf, Site, Length, rangeMusts, offsetMusts, headerMusts, rangesOk, offsetsOk, framedOk, stride, slotSize, tableEnd, slotsEnd, endOf}
 
 pub record InRange (g : Geometry) : Type 0 where
   pub d-low : 2 ≤ g .d
@@ -39,7 +39,6 @@ pub record Framed (s : List ℕ) (g : Geometry) : Type 0 where
   pub media-end : endOf g ≤ length s
 
 pub in-range : (g : Geometry) → rangesOk g ≡ true → InRange g
-unfolding rangesOk
 in-range g e =
     record {
       d-low = leb-true _ _ (holds _ 0 e);
@@ -71,7 +70,6 @@ module _ (g : Geometry) (r : InRange g) where
 -- ---- what the tests say
 
 pub placed : (g : Geometry) → rangesOk g ≡ true → offsetsOk g ≡ true → Placed g
-unfolding offsetsOk
 placed g r e =
     let ranges = in-range g r in
     let table : g .table ≡ 32 = eqb-true _ _ (holds _ 0 e) in
@@ -98,10 +96,10 @@ pub framed-same : (s s′ : List ℕ) (g : Geometry) → Framed s g → length s
 framed-same s s′ g f e = record { placed = f .placed; media-end = omega arith }
 
 -- what must hold of the header and of the length, taken together
-pub header-ok : (m : List ℕ) → every (tests (headerMusts m)) ≡ framedOk m
-unfolding framedOk rangesOk offsetsOk every
+pub header-ok : (m : List ℕ) → every (testsOf (headerMusts m)) ≡ framedOk m
+unfolding framedOk every
 header-ok m =
     let g = geometryOf m in
-    let end : List (Must Spot) = must Length (eqb (length m) (endOf g)) ∷ [] in
+    let end : List (Must Site) = must Length (eqb (length m) (endOf g)) ∷ [] in
     ap (λ (b : Bool). cond (leb 32 (length m)) b false)
     (every-both (rangeMusts g) (offsetMusts g ++ end) ∙ ap (λ (b : Bool). cond (rangesOk g) b false) (every-both (offsetMusts g) end))

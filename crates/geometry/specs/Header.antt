@@ -7,7 +7,7 @@ use lib.Dec.{leb, eqb}
 use Rattle.octets.specs.Part.{part}
 use Rattle.octets.specs.Number.{be}
 use Rattle.folds.specs.Every.{every}
-use Rattle.rules.specs.Must.{Must, must, tests}
+use Rattle.rules.specs.Must.{Must, must, testsOf}
 use Rattle.geometry.specs.declared.Geometry.{Geometry}
 
 -- "The header is eight 4-byte fields": D, B, L, S, M, "then the offsets of the drive table, slots and media"
@@ -25,13 +25,13 @@ geometryOf m =
     }
 
 -- where it is seen that an image is not valid: at its length, or at the first byte of a field
-pub data Spot : Type 0 where
-  Length : Spot
-  Byte : ℕ → Spot
+pub data Site : Type 0 where
+  Length : Site
+  Byte : ℕ → Site
 
 -- "drives D (2 to 32), blocks per drive B (1 to 65,536), block length L (4 to 4,096, a multiple of 4), slots S (0 to 16), slot size M
 -- in blocks (1 to 256)"
-abbrev pub rangeMusts : Geometry → List (Must Spot)
+abbrev pub rangeMusts : Geometry → List (Must Site)
 rangeMusts g =
     must (Byte 0) (leb 2 (g .d))
     ∷ must (Byte 0) (leb (g .d) 32)
@@ -45,8 +45,8 @@ rangeMusts g =
     ∷ must (Byte 16) (leb (g .m) 256)
     ∷ []
 
-unfoldable pub rangesOk : Geometry → Bool
-rangesOk g = every (tests (rangeMusts g))
+abbrev pub rangesOk : Geometry → Bool
+rangesOk g = every (testsOf (rangeMusts g))
 
 -- "Drive table at 32: per drive 4 bytes"
 abbrev pub stride : Geometry → ℕ
@@ -63,22 +63,23 @@ tableEnd g = 32 + stride g * g .d
 abbrev pub slotsEnd : Geometry → ℕ
 slotsEnd g = tableEnd g + g .s * slotSize g
 
-abbrev pub offsetMusts : Geometry → List (Must Spot)
+abbrev pub offsetMusts : Geometry → List (Must Site)
 offsetMusts g = must (Byte 20) (eqb (g .table) 32) ∷ must (Byte 24) (eqb (g .slots) (tableEnd g)) ∷ must (Byte 28) (eqb (g .media) (slotsEnd g)) ∷ []
 
-unfoldable pub offsetsOk : Geometry → Bool
-offsetsOk g = every (tests (offsetMusts g))
+abbrev pub offsetsOk : Geometry → Bool
+offsetsOk g = every (testsOf (offsetMusts g))
 
 -- "The image ends there, D*B*L bytes on."
 abbrev pub endOf : Geometry → ℕ
 endOf g = g .media + g .d * g .b * g .l
 
 -- an image has a header, the header is right, and the image as long as it says
-abbrev pub headerMusts : List ℕ → List (Must Spot)
+abbrev pub headerMusts : List ℕ → List (Must Site)
 headerMusts m =
     must Length (leb 32 (length m))
     ∷ (rangeMusts (geometryOf m) ++ offsetMusts (geometryOf m) ++ must Length (eqb (length m) (endOf (geometryOf m))) ∷ [])
 
+-- the same tests by stages, as the code makes them
 unfoldable pub framedOk : List ℕ → Bool
 framedOk m =
     every

@@ -14,7 +14,7 @@ use Rattle.folds.specs.Count.{countBelow}
 use Rattle.rules.specs.Rule.{first}
 use Rattle.rules.specs.Must.{broken}
 use Rattle.geometry.specs.declared.Geometry.{Geometry}
-use Rattle.geometry.specs.Header.{Spot, Length, Byte, rangesOk, offsetsOk, framedOk, slotAt}
+use Rattle.geometry.specs.Header.{Site, Length, Byte, framedOk, slotAt}
 use Rattle.drives.specs.Table.{tableOk}
 use Rattle.slots.specs.Record.{slotOf}
 use Rattle.slots.specs.Slots.{slotsOk}
@@ -69,7 +69,7 @@ abbrev pub benchShape : Geometry
 benchShape = record { d = 3; b = 2; l = 4; s = 1; m = 2; table = 32; slots = 44; media = 68 }
 
 pub bench-shelf : Shelf bench benchShape
-unfolding framedOk rangesOk offsetsOk tableOk slotsOk slotOf slotAt every allBelow countBelow part num
+unfolding framedOk tableOk slotsOk slotOf slotAt every allBelow countBelow part num
 bench-shelf = record { header = refl; framed-ok = refl; table-ok = refl; slots-ok = refl }
 
 pub bench-valid : validImage bench ≡ true
@@ -85,7 +85,7 @@ unfolding validImage slotOf slotAt every allBelow countBelow part num
 spoilt-not = (refl, refl, refl, refl)
 
 -- where it is seen first that an image is not valid
-abbrev seen : List ℕ → Option Spot
+abbrev seen : List ℕ → Option Site
 seen m = first (λ n w a. some w) (broken (imageMusts m)) none
 
 -- the bench shelf with two slots

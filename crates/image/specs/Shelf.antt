@@ -7,7 +7,7 @@ use lib.ListN.{length}
 use Rattle.folds.specs.Every.{every, holds, every-of}
 use Rattle.folds.specs.All.{all-ext}
 use Rattle.folds.specs.Tests.{cond-self}
-use Rattle.rules.specs.Must.{tests, eachBelow, none-broken, every-either, every-both, every-below}
+use Rattle.rules.specs.Must.{testsOf, eachBelow, none-broken, every-either, every-both, every-below}
 use Rattle.geometry.specs.declared.Geometry.{Geometry}
 use Rattle.geometry.specs.Header.{geometryOf, headerMusts, framedOk}
 use Rattle.geometry.specs.Frame.{Framed, framed, framed-long, header-ok}
@@ -39,7 +39,7 @@ valid-is m =
     (every-both table slots
     ∙ ap₂ both (every-below (g .d) (entryMusts m g))
     (every-below (g .s) (slotMusts m g)
-    ∙ all-ext (λ i. every (tests (slotMusts m g i))) (λ i. slotOk g (usedCount m g) (newRank (slotOf m g) i) (slotOf m g i)) (g .s) (λ i l. every-either (isUsed (slotOf m g i)) _ _)
+    ∙ all-ext (λ i. every (testsOf (slotMusts m g i))) (λ i. slotOk g (usedCount m g) (newRank (slotOf m g) i) (slotOf m g i)) (g .s) (λ i l. every-either (isUsed (slotOf m g i)) _ _)
     ∙ sym (cond-self (slotsOk m g))))
 
 pub shelf : (m : List ℕ) → validImage m ≡ true → Shelf m (geometryOf m)

@@ -4,13 +4,13 @@ use mathlib.Core.List.{List, _++_}
 use mathlib.Core.Bool.{Bool, true, false}
 use Rattle.rules.specs.Rule.{first}
 use Rattle.rules.specs.Must.{Must, broken, eachBelow}
-use Rattle.geometry.specs.Header.{Spot, geometryOf, headerMusts}
+use Rattle.geometry.specs.Header.{Site, geometryOf, headerMusts}
 use Rattle.drives.specs.Table.{entryMusts}
 use Rattle.slots.specs.Slots.{slotMusts}
 
 -- what must hold, in the image's byte order: the header with offsets and length, the drive table, the slots; "its data may be anything", and
 -- the media too
-abbrev pub imageMusts : List ℕ → List (Must Spot)
+abbrev pub imageMusts : List ℕ → List (Must Site)
 imageMusts m =
     headerMusts m ++ (eachBelow (geometryOf m .d) (entryMusts m (geometryOf m)) ++ eachBelow (geometryOf m .s) (slotMusts m (geometryOf m)))
 

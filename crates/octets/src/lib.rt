@@ -3,13 +3,14 @@
 // Their contracts are single equations in the vocabulary of `specs/`: `part` (a range read), `put`
 // (a range written), `⊻` (XOR, the shorter list filled up with zeros), `be n` and `toBe n`
 // (big-endian numbers). Only the functions named `_at` lend a part of a mutable slice.
+mod new;
 mod number;
 
+pub use new::keep_new;
 pub use number::be2;
 pub use number::be3;
 pub use number::be4;
 pub use number::byte;
-pub use number::keep_new;
 pub use number::put_be4;
 pub use number::to_be4;
 ghost use mathlib.Core.Path.{_≡_};

@@ -2,11 +2,10 @@
 use crate::Four;
 ghost use mathlib.Core.Path.{_≡_};
 ghost use Prim.Native.Nat.{_+_, _<_, _≤_, _^_};
-ghost use lib.ListN.{length, getD, set};
+ghost use lib.ListN.{length, getD};
 ghost use Rattle.octets.specs.Put.{put};
 ghost use Rattle.octets.specs.Number.{be, toBe};
 ghost use Rattle.octets.specs.Four.{fourOf};
-ghost use Rattle.octets.specs.New.{newTo};
 
 fn wide(x: u8) -> usize
     ensures { λ r. ⌜ (r ≡ x) × (r < 256) ⌝ }
@@ -77,20 +76,4 @@ pub fn put_be4(xs: &mut [u8], at: usize, v: usize)
     let w = to_be4(v);
     let b = [w.0, w.1, w.2, w.3];
     crate::put_at(xs, at, &b);
-}
-
-// Is x none of the first n numbers kept? It is kept behind them. Each of them is compared, so that several are at once.
-pub fn keep_new(kept: &mut [u32], n: usize, x: usize) -> bool
-    requires { ⌜ (n < length (now kept)) × (x < 4294967296) ⌝ }
-    ensures { λ r. ⌜ (r ≡ newTo (now (kept .entry)) n x) × (now (kept .exit) ≡ set (now (kept .entry)) n x) ⌝ }
-{
-    let own = x as u32;
-    let mut new = true;
-    let mut i = 0;
-    while i < n {
-        new = new & (kept[i] != own);
-        i += 1;
-    }
-    kept[n] = own;
-    new
 }

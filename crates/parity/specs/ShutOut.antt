@@ -18,7 +18,7 @@ use Rattle.folds.specs.Same.{sameList}
 use Rattle.folds.specs.Count.{countBelow}
 use Rattle.folds.specs.Least.{leastBelow}
 use Rattle.geometry.specs.declared.Geometry.{Geometry}
-use Rattle.geometry.specs.Header.{geometryOf, rangesOk, offsetsOk, framedOk, slotAt, place}
+use Rattle.geometry.specs.Header.{geometryOf, framedOk, slotAt, place}
 use Rattle.drives.specs.declared.Came.{Came}
 use Rattle.geometry.specs.Stores.{stored}
 use Rattle.drives.specs.Table.{driveOf, to, tableOk}
@@ -73,7 +73,7 @@ on-bench : (after : Call → List ℕ → List ℕ) → Whole after bench benchS
 on-bench = at-once bench bench-start (small-octets bench refl) bench-zero (present bench refl refl refl)
 
 spare-start : Start spare benchShape
-unfolding framedOk rangesOk offsetsOk tableOk slotsOk slotOf slotAt every allBelow countBelow part num results agesTo slotRanked leastBelow
+unfolding framedOk tableOk slotsOk slotOf slotAt every allBelow countBelow part num results agesTo slotRanked leastBelow
 spare-start = record { valid = record { header = refl; framed-ok = refl; table-ok = refl; slots-ok = refl }; nothing-retained = refl }
 
 spare-zero : ZeroSums spare benchShape 0 2

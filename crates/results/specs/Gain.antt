@@ -1,14 +1,13 @@
 -- An empty slot takes a result at rank k + 1: the slots stay right, and it is the newest.
 --
 use Prim.Native.Nat.{ℕ, suc, _+_, _≤_, _<_}
-use native.Mathlib.Numerals.{add-one}
 use native.Mathlib.Omega.{arith}
 use mathlib.Core.Bool.{true, false, true≢false}
 use mathlib.Core.Path.{_≡_, sym, ap, ap₂, _∙_}
 use mathlib.Core.Logic.{⊎-elim}
 use mathlib.Core.List.{List, _∷_}
-use Rattle.folds.specs.Cases.{either, same, last-or-below}
-use Rattle.folds.specs.Count.{count-ext, count-gone, count-just}
+use Rattle.folds.specs.Cases.{same}
+use Rattle.folds.specs.Count.{count-gone}
 use Rattle.geometry.specs.declared.Geometry.{Geometry}
 use Rattle.slots.specs.declared.Slot.{Slot}
 use Rattle.slots.specs.Record.{isUsed}

@@ -8,8 +8,8 @@ use mathlib.Core.Path.{_≡_, refl, sym, ap, _∙_}
 use mathlib.Core.Logic.{⊎-elim}
 use mathlib.Core.List.{List, _∷_}
 use borrow.Author.Tests.{eq-eqb, ne-eqb}
-use Rattle.folds.specs.Cases.{either, same, order, agree}
-use Rattle.folds.specs.Count.{count-ext, count-gone}
+use Rattle.folds.specs.Cases.{same, order, agree}
+use Rattle.folds.specs.Count.{count-gone}
 use Rattle.geometry.specs.declared.Geometry.{Geometry}
 use Rattle.slots.specs.declared.Slot.{Slot}
 use Rattle.slots.specs.Record.{isUsed, zeroSlot}

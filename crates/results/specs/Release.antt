@@ -21,8 +21,8 @@ use Rattle.geometry.specs.Places.{slot-room}
 use Rattle.geometry.specs.Outside.{Outside, outside-data}
 use Rattle.slots.specs.declared.Slot.{Slot}
 use Rattle.slots.specs.Record.{slotOf, isUsed, zeroSlot}
-use Rattle.slots.specs.Slots.{usedCount, slotsOk}
-use Rattle.slots.specs.Facts.{empty-is, right, right-ok}
+use Rattle.slots.specs.Slots.{slotsOk}
+use Rattle.slots.specs.Facts.{right, right-ok}
 use Rattle.slots.specs.Change.{lowered, released}
 use Rattle.slots.specs.Stored.{slot-zeroed, slot-other}
 use Rattle.results.specs.Lists.{map-keeping}

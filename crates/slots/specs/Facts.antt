@@ -1,5 +1,5 @@
 -- What the slots' tests say, by name.
-use mathlib.Core.Path.{_≡_, sym, ap}
+use mathlib.Core.Path.{_≡_, sym, ap, _∙_}
 use mathlib.Core.Logic.{⊎-elim}
 use mathlib.Core.List.{List}
 use mathlib.Core.Bool.{Bool, true, false, not}
@@ -11,12 +11,12 @@ use Rattle.folds.specs.Every.{every, holds, every-of}
 use Rattle.folds.specs.All.{all-at, all-intro}
 use Rattle.folds.specs.declared.Found.the-variants.{At}
 use Rattle.folds.specs.Least.{least-inside}
-use Rattle.rules.specs.Must.{tests}
+use Rattle.rules.specs.Must.{testsOf}
 use Rattle.geometry.specs.declared.Geometry.{Geometry}
 use Rattle.slots.specs.declared.Slot.{Slot}
 use Rattle.slots.specs.Record.{slotOf, zeroSlot, isUsed}
 use Rattle.slots.specs.Find.{emptySlot}
-use Rattle.slots.specs.Slots.{emptyMusts, usedMusts, slotOk, usedIn, newRank, slotsOk}
+use Rattle.slots.specs.Slots.{emptyMusts, usedMusts, slotOk, usedIn, rankIn, newRank, slotsOk}
 
 pub record Used (g : Geometry) (k : ℕ) (r : Slot) : Type 0 where
   pub kind-low : 1 ≤ r .kind
@@ -32,7 +32,7 @@ pub record Used (g : Geometry) (k : ℕ) (r : Slot) : Type 0 where
 module _ (g : Geometry) (k : ℕ) (new : Bool) (r : Slot) where
   pub used-facts : isUsed r ≡ true → slotOk g k new r ≡ true → Used g k r × (new ≡ true)
   used-facts u ok =
-      let e : every (tests (usedMusts g k new zeroSlot r)) ≡ true = rw u at ok in (
+      let e : every (testsOf (usedMusts g k new zeroSlot r)) ≡ true = rw u at ok in (
         record {
           rank-low = leb-true _ _ (holds _ 0 e);
           rank-high = leb-true _ _ (holds _ 1 e);
@@ -50,7 +50,7 @@ module _ (g : Geometry) (k : ℕ) (new : Bool) (r : Slot) where
   pub used-ok : isUsed r ≡ true → Used g k r → new ≡ true → slotOk g k new r ≡ true
   used-ok u h n =
       rw u
-      (every-of (tests (usedMusts g k new zeroSlot r)) (
+      (every-of (testsOf (usedMusts g k new zeroSlot r)) (
         le-leb _ _ (h .rank-low),
         (
           le-leb _ _ (h .rank-high),
@@ -76,7 +76,7 @@ module _ (g : Geometry) (k : ℕ) (new : Bool) (r : Slot) where
   -- an empty slot that is right is all zero, and the other way round
   pub empty-is : isUsed r ≡ false → slotOk g k new r ≡ true → r ≡ zeroSlot
   empty-is u ok =
-      let e : every (tests (emptyMusts zeroSlot r)) ≡ true = rw u at ok in
+      let e : every (testsOf (emptyMusts zeroSlot r)) ≡ true = rw u at ok in
       let z0 : r .kind ≡ 0 = eqb-true _ _ (not-false _ u) in
       let z1 : r .rank ≡ 0 = eqb-true _ _ (holds _ 0 e) in
       let z2 : r .drive ≡ 0 = eqb-true _ _ (holds _ 1 e) in
@@ -111,8 +111,12 @@ module _ (s : List ℕ) (g : Geometry) where
   unfolding slotsOk
   at ok i l = all-at _ (g .s) i ok l
 
-  new-at : slotsOk s g ≡ true → (i j : ℕ) → i < g .s → isUsed (f i) ≡ true → j < i → f j .rank ≡ f i .rank → ⊥
-  new-at ok i j l u lj = eqb-false _ _ (not-true _ (all-at _ i j (used-facts g _ _ (f i) u (at ok i l) .1) lj))
+  rank-in : (i : ℕ) → isUsed (f i) ≡ true → rankIn (f i) ≡ f i .rank
+  rank-in i u = rw u
+
+  new-at : slotsOk s g ≡ true → (i j : ℕ) → i < g .s → isUsed (f i) ≡ true → isUsed (f j) ≡ true → j < i → f j .rank ≡ f i .rank → ⊥
+  new-at ok i j l u v lj e =
+      eqb-false _ _ (not-true _ (all-at _ i j (used-facts g _ _ (f i) u (at ok i l) .1) lj)) (rank-in j v ∙ e ∙ sym (rank-in i u))
 
   pub right : slotsOk s g ≡ true → Right g f
   right ok =
@@ -120,15 +124,18 @@ module _ (s : List ℕ) (g : Geometry) where
         used = λ i l u. used-facts g _ _ (f i) u (at ok i l) .0;
         empty = λ i l u. empty-is g _ _ (f i) u (at ok i l);
         apart = λ i j li lj ui uj e. ⊎-elim (λ q. q)
-            (λ ne. ⊎-elim (λ l. absurd (new-at ok j i lj uj l e)) (λ l. absurd (new-at ok i j li ui l (sym e))) (differ i j ne))
+            (λ ne. ⊎-elim (λ l. absurd (new-at ok j i lj uj ui l e)) (λ l. absurd (new-at ok i j li ui uj l (sym e))) (differ i j ne))
             (same i j);
       }
 
   new-of : Right g f → (i : ℕ) → i < g .s → isUsed (f i) ≡ true → newRank f i ≡ true
   new-of h i l u =
       all-intro _ i
-      (λ j lj. ap not (ne-eqb _ _ (λ e. ⊎-elim (λ v. let q = h .apart j i (omega arith) l v u e in omega arith)
-      (λ v. let w = h .used i l u in omega (arith, ap (λ (r : Slot). r .rank) (h .empty j (omega arith) v)))
+      (λ j lj. ap not (ne-eqb _ _ (λ e. ⊎-elim
+      (λ v. let q = h .apart j i (omega arith) l v u (sym (rank-in j v) ∙ e ∙ rank-in i u) in omega arith)
+      (λ v. let w = h .used i l u in
+      let z : rankIn (f j) ≡ 0 = rw v in
+      omega (arith, rank-in i u))
       (either (isUsed (f j))))))
 
   pub right-ok : Right g f → slotsOk s g ≡ true

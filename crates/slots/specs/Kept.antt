@@ -20,7 +20,7 @@ use Rattle.geometry.specs.Places.{slot-after-front, slot-inside, data-ends}
 use Rattle.geometry.specs.Outside.{Away}
 use Rattle.slots.specs.declared.Slot.{Slot}
 use Rattle.slots.specs.Record.{recordOf, slotOf, isUsed}
-use Rattle.slots.specs.Slots.{slotOk, usedCount, hasRank, newRank, slotsOk}
+use Rattle.slots.specs.Slots.{slotOk, usedCount, hasRank, rankIn, newRank, slotsOk}
 use Rattle.slots.specs.Find.{emptySlot}
 
 -- all slots' bytes
@@ -60,7 +60,7 @@ module _ (s t : List ℕ) (g : Geometry) (p : Placed g) (e : slotBytes t g ≡ s
   kept-has n i l = ap (hasRank n) (kept-slot i l)
 
   kept-new : (i : ℕ) → i < g .s → newRank (slotOf t g) i ≡ newRank (slotOf s g) i
-  kept-new i l = all-ext _ _ i (λ j lj. ap₂ (λ (a b : Slot). not (eqb (a .rank) (b .rank))) (kept-slot j (omega arith)) (kept-slot i l))
+  kept-new i l = all-ext _ _ i (λ j lj. ap₂ (λ (a b : Slot). not (eqb (rankIn a) (rankIn b))) (kept-slot j (omega arith)) (kept-slot i l))
 
   pub kept-ok : slotsOk t g ≡ slotsOk s g
   unfolding slotsOk

@@ -15,8 +15,8 @@ recordOf bytes =
     record { rank = be 4 bytes 0; kind = be 1 bytes 4; drive = be 1 bytes 5; len = be 2 bytes 6; block = record { 0 = be 4 bytes 8 }; last = be 4 bytes 12 }
 
 -- where its fields start, where it starts at index at
-abbrev pub fieldsAt : ℕ → Slot
-fieldsAt at = record { rank = at; kind = at + 4; drive = at + 5; len = at + 6; block = record { 0 = at + 8 }; last = at + 12 }
+abbrev pub fieldStarts : ℕ → Slot
+fieldStarts at = record { rank = at; kind = at + 4; drive = at + 5; len = at + 6; block = record { 0 = at + 8 }; last = at + 12 }
 
 -- the sixteen bytes that write it
 unfoldable pub bytesOf : Slot → List ℕ

@@ -2,17 +2,17 @@
 use crate::Slot;
 use geometry::Geometry;
 ghost use mathlib.Core.Path.{_≡_};
-ghost use Prim.Native.Nat.{_≤_};
+ghost use Prim.Native.Nat.{_<_, _≤_};
 ghost use lib.ListN.{length};
 ghost use Rattle.folds.specs.Every.{every};
-ghost use Rattle.rules.specs.Must.{tests};
+ghost use Rattle.rules.specs.Must.{testsOf};
 ghost use Rattle.geometry.specs.Frame.{Framed};
 ghost use Rattle.slots.specs.Record.{zeroSlot};
 ghost use Rattle.slots.specs.RecordLaws.{Small};
-ghost use Rattle.slots.specs.Slots.{emptyMusts, usedMusts, slotOk, usedCount, slotsOk};
+ghost use Rattle.slots.specs.Slots.{emptyMusts, usedMusts, slotOk, usedCount, rankIn, slotsOk};
 
 fn empty_ok(r: Slot) -> bool
-    ensures { λ y. ⌜ y ≡ every (tests (emptyMusts zeroSlot r)) ⌝ }
+    ensures { λ y. ⌜ y ≡ every (testsOf (emptyMusts zeroSlot r)) ⌝ }
 {
     let block = r.block;
     (r.rank == 0) & (r.drive == 0) & (r.len == 0) & (block.0 == 0) & (r.last == 0)
@@ -20,7 +20,7 @@ fn empty_ok(r: Slot) -> bool
 
 fn used_ok(g: Geometry, k: usize, new: bool, r: Slot) -> bool
     requires { ⌜ Small r ⌝ }
-    ensures { λ y. ⌜ y ≡ every (tests (usedMusts g k new zeroSlot r)) ⌝ }
+    ensures { λ y. ⌜ y ≡ every (testsOf (usedMusts g k new zeroSlot r)) ⌝ }
 {
     let kind = r.kind;
     let len = r.len;
@@ -66,6 +66,14 @@ pub fn used_count(image: &[u8], g: Geometry) -> usize
     k
 }
 
+// Its rank, and 0 where it is empty.
+fn rank_in(r: Slot) -> usize
+    requires { ⌜ Small r ⌝ }
+    ensures { λ y. ⌜ (y ≡ rankIn r) × (y < 4294967296) ⌝ }
+{
+    if r.kind == 0 { 0 } else { r.rank }
+}
+
 // Each record is read once: the ranks of the slots passed are kept.
 fn each_ok(image: &[u8], g: Geometry, k: usize, kept: &mut [u32]) -> bool
     requires { ⌜ Framed (now image) g × (k ≡ usedCount (now image) g) × (16 ≤ length (now kept)) ⌝ }
@@ -76,7 +84,7 @@ fn each_ok(image: &[u8], g: Geometry, k: usize, kept: &mut [u32]) -> bool
     let mut i = 0;
     while i < n {
         let r = crate::read_slot(image, g, i);
-        let new = octets::keep_new(kept, i, r.rank);
+        let new = octets::keep_new(kept, i, rank_in(r));
         ok = ok & slot_ok(g, k, new, r);
         i += 1;
     }

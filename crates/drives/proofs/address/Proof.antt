@@ -2,7 +2,6 @@
 use mathlib.Core.Path.{ap, _∙_}
 use Prim.Native.Nat.{ℕ, _+_}
 use native.Mathlib.Omega.{arith}
-use borrow.Author.Needs.{needs}
 use Rattle.octets.specs.Number.{be}
 use Rattle.drives.proofs.address.Statement.{statement}
 use Rattle.drives.proofs.address.Tie as tie

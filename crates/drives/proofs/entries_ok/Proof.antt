@@ -10,14 +10,14 @@ use borrow.Author.Needs.{needs}
 use Rattle.octets.specs.New.{Begins, new-is, begins-more}
 use Rattle.folds.specs.Every.{every, every-joined}
 use Rattle.folds.specs.All.{allBelow, all-none, all-turn, all-end}
-use Rattle.rules.specs.Must.{tests}
+use Rattle.rules.specs.Must.{testsOf}
 use Rattle.drives.specs.Table.{addressOf, entryMusts, tableOk}
 use Rattle.drives.proofs.entries_ok.Statement.{statement}
 use Rattle.drives.proofs.entries_ok.Tie as tie
 
 abbrev Inv-loop : tie.InvT-loop
 Inv-loop image g kept₀ n ok₀ i₀ kept ok i =
-    (i ≤ n) × (ok ≡ allBelow i (λ j. every (tests (entryMusts image g j)))) × (length kept ≡ length kept₀) × Begins kept (addressOf image g) i
+    (i ≤ n) × (ok ≡ allBelow i (λ j. every (testsOf (entryMusts image g j)))) × (length kept ≡ length kept₀) × Begins kept (addressOf image g) i
 
 abbrev μ-loop : tie.MeasureT-loop
 μ-loop image g kept₀ n ok₀ i₀ kept ok i = n - i

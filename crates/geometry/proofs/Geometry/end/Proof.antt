@@ -1,7 +1,7 @@
 -- `geometry::Geometry::end` meets its contract.
 use native.Mathlib.Omega.{arith}
 use borrow.Author.Needs.{needs}
-use Rattle.geometry.specs.Frame.{blocks-small, media-small, slots-small}
+use Rattle.geometry.specs.Frame.{blocks-small, media-small}
 use Rattle.geometry.proofs.Geometry.end.Statement.{statement}
 use Rattle.geometry.proofs.Geometry.end.Tie as tie
 

@@ -2,7 +2,6 @@
 use native.Mathlib.Omega.{arith}
 use borrow.Author.Needs.{needs}
 use Rattle.folds.specs.Every.{every-joined}
-use Rattle.geometry.specs.Header.{offsetsOk}
 use Rattle.geometry.specs.Frame.{slot-small, slots-small}
 use Rattle.geometry.proofs.Geometry.offsets_ok.Statement.{statement}
 use Rattle.geometry.proofs.Geometry.offsets_ok.Tie as tie
@@ -28,7 +27,6 @@ add-result-2 c =
     omega (arith, slots-small (start .args .self) (start .pre))
 
 returns : tie.Need-returns
-unfolding offsetsOk
 returns c = every-joined _ _
 
 pub offsets-ok-spec : {M : Type 1} → statement M

@@ -2,7 +2,6 @@
 use mathlib.Core.Path.{refl}
 use native.Mathlib.Omega.{arith}
 use Rattle.geometry.specs.Header.{place}
-use Rattle.geometry.specs.Frame.{slots-small}
 use Rattle.geometry.specs.Places.{rows-offset, place-offset, place-in}
 use Rattle.geometry.proofs.Geometry.place.Statement.{statement}
 use Rattle.geometry.proofs.Geometry.place.Tie as tie

@@ -1,12 +1,12 @@
--- `octets::number::keep_new` meets its contract. The loop's invariant: new says whether x is none of the numbers passed.
+-- `octets::new::keep_new` meets its contract. The loop's invariant: new says whether x is none of the numbers passed.
 use Prim.Native.Nat.{_≤_, _-_}
 use mathlib.Core.Path.{_≡_, sym, refl}
 use native.Mathlib.Omega.{arith}
 use borrow.Author.Needs.{needs}
 use Rattle.folds.specs.All.{all-none, all-turn, all-end}
 use Rattle.octets.specs.New.{newTo}
-use Rattle.octets.proofs.number.keep_new.Statement.{statement}
-use Rattle.octets.proofs.number.keep_new.Tie as tie
+use Rattle.octets.proofs.new.keep_new.Statement.{statement}
+use Rattle.octets.proofs.new.keep_new.Tie as tie
 
 abbrev Inv-loop : tie.InvT-loop
 Inv-loop kept n x own new₀ i₀ new i = (i ≤ n) × (new ≡ newTo kept i x)
