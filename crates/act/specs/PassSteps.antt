@@ -14,12 +14,12 @@ use Rattle.act.specs.Pass.{passedPiece}
 
 -- ---- the result's bytes
 
-module _ (s sent : List ℕ) (mirror from o k : ℕ) (a : List ℕ) (ae : a ≡ part sent o k) where
-  pub mix-xor : (b : List ℕ) → mirror ≡ 0 → length a ≡ k → b ≡ a ⊻ part s from (length a) → b ≡ mixed mirror (part sent o k) (part s from k)
-  mix-xor b e l be = rw (eq-eqb mirror 0 e) (be ∙ ap₂ (λ (x : List ℕ) (n : ℕ). x ⊻ part s from n) ae l)
+module _ (mirror : ℕ) (bytes old acc : List ℕ) where
+  pub mix-xor : mirror ≡ 0 → acc ≡ bytes ⊻ old → acc ≡ mixed mirror bytes old
+  mix-xor e q = rw (eq-eqb mirror 0 e) q
 
-  pub mix-plain : (mirror ≡ 0 → ⊥) → a ≡ mixed mirror (part sent o k) (part s from k)
-  mix-plain ne = rw (ne-eqb mirror 0 ne) ae
+  pub mix-plain : (mirror ≡ 0 → ⊥) → acc ≡ bytes → acc ≡ mixed mirror bytes old
+  mix-plain ne q = rw (ne-eqb mirror 0 ne) q
 
 -- ---- the data
 

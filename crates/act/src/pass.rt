@@ -66,10 +66,11 @@ pub fn mix(acc: &mut [u8], image: &[u8], from: usize, mirror: usize, sent: &[u8]
     requires { ⌜ (from + length (now acc) ≤ length (now image)) × (o + length (now acc) ≤ length (now sent)) ⌝ }
     ensures { λ _. ⌜ now (acc .exit) ≡ mixed mirror (part (now (sent .entry)) o (length (now (acc .entry)))) (part (now (image .entry)) from (length (now (acc .entry)))) ⌝ }
 {
-    octets::copy_from(acc, sent, o);
     if mirror == 0 {
-        octets::xor_from(acc, image, from);
+        octets::xor_both(acc, sent, o, image, from);
+        return;
     }
+    octets::copy_from(acc, sent, o);
 }
 
 // With writes, the bytes sent go to index at.

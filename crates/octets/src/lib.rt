@@ -51,6 +51,19 @@ pub fn xor_four_into(dst: &mut [u8], a: &[u8], b: &[u8], c: &[u8], d: &[u8])
     }
 }
 
+// Writes the XOR of a and b over dst, in one pass: dst is stored once, and not loaded.
+pub fn xor_over(dst: &mut [u8], a: &[u8], b: &[u8])
+    requires { ⌜ (length (now dst) ≡ length (now a)) × (length (now dst) ≡ length (now b)) ⌝ }
+    ensures { λ _. ⌜ now (dst .exit) ≡ now (a .entry) ⊻ now (b .entry) ⌝ }
+{
+    let n = dst.len();
+    let mut i = 0;
+    while i < n {
+        dst[i] = a[i] ^ b[i];
+        i += 1;
+    }
+}
+
 // Copies src over dst.
 pub fn copy_into(dst: &mut [u8], src: &[u8])
     requires { ⌜ length (now dst) ≡ length (now src) ⌝ }
@@ -116,6 +129,15 @@ pub fn xor_four_from(acc: &mut [u8], xs: &[u8], a: usize, b: usize, c: usize, d:
         &xs[c..c + n],
         &xs[d..d + n],
     );
+}
+
+// Writes over acc the XOR of the bytes of xs from index a on and those of ys from index b on.
+pub fn xor_both(acc: &mut [u8], xs: &[u8], a: usize, ys: &[u8], b: usize)
+    requires { ⌜ (a + length (now acc) ≤ length (now xs)) × (b + length (now acc) ≤ length (now ys)) ⌝ }
+    ensures { λ _. ⌜ now (acc .exit) ≡ part (now (xs .entry)) a (length (now (acc .entry))) ⊻ part (now (ys .entry)) b (length (now (acc .entry))) ⌝ }
+{
+    let n = acc.len();
+    xor_over(acc, &xs[a..a + n], &ys[b..b + n]);
 }
 
 // Copies the bytes of xs from index at on over acc.

@@ -9,6 +9,9 @@ xor-into-once = equation
 pub xor-four-into-once : Only octets.xor_four_into.Reads.Post (λ _ _ s. now (s .0))
 xor-four-into-once = equation
 
+pub xor-over-once : Only octets.xor_over.Reads.Post (λ _ _ s. now (s .0))
+xor-over-once = equation
+
 pub copy-into-once : Only octets.copy_into.Reads.Post (λ _ _ s. now (s .0))
 copy-into-once = equation
 
@@ -26,6 +29,9 @@ xor-from-once = equation
 
 pub xor-four-from-once : Only octets.xor_four_from.Reads.Post (λ _ _ s. now (s .0))
 xor-four-from-once = equation
+
+pub xor-both-once : Only octets.xor_both.Reads.Post (λ _ _ s. now (s .0))
+xor-both-once = equation
 
 pub copy-from-once : Only octets.copy_from.Reads.Post (λ _ _ s. now (s .0))
 copy-from-once = equation
