@@ -147,7 +147,7 @@ c10 = read-does bench benchShape (to 1) 0 first 1 1 room (lit≤ tt) 0 refl (lit
 
 pub c11 : Does bench (to 1) (ten 0xC1 9 0) [] room 0 bench room
 unfolding cdbOf toBe
-c11 = idle-does bench benchShape (to 1) 0 first 9 (lit≤ tt) room 0xC1 0 XpWrite (codes-say .2) tt refl
+c11 = idle-does bench benchShape (to 1) 0 first 9 (lit≤ tt) room 0xC1 0 XpWrite (codes-say .2) refl refl refl
 
 -- the published codes: 50h leaves what C2 leaves, 53h hands its result out, with DISABLE WRITE too
 pub published :

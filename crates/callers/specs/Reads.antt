@@ -45,7 +45,7 @@ module _ (m : List ℕ) (g : Geometry) (a : Came) (t : ℕ) (h : Target m g a t)
       subst (λ (j : ℕ). Does m a (readCdb flags b n) [] r j m (put r 0 (blocksAt m g t b n)))
       (range-long m g t b n f (w .range))
       (does m g a t h (readCdb flags b n) [] r Read (tenSaying 0x28 Read a flags b n) (ToRead (blocks t b n))
-      (ten-says 0x28 Read a flags b n (codes-say .0) tt (omega (arith, w .range .range-in)) small)
+      (ten-says 0x28 Read a flags b n (codes-say .0) refl (omega (arith, w .range .range-in)) small)
       (ap (λ (x : ℕ). not (eqb x 0)) z
       then refl
       then refl
@@ -68,7 +68,7 @@ module _ (m : List ℕ) (g : Geometry) (a : Came) (t : ℕ) (h : Target m g a t)
       subst (λ (j : ℕ). Does m a (xdreadCdb code b n) [] r j (released m g i) (put r 0 (part m (dataAt g i) (n * g .l))))
       (length-part m (dataAt g i) (n * g .l) (data-in m g i n f (w .slot-in) (w .limited)))
       (does m g a t h (xdreadCdb code b n) [] r XdRead (tenSaying code XdRead a 0 b n) (ToXdRead (blocks t b n) i)
-      (ten-says code XdRead a 0 b n said tt (omega (arith, u .range-in)) (omega (arith, w .limited)))
+      (ten-says code XdRead a 0 b n said refl (omega (arith, u .range-in)) (omega (arith, w .limited)))
       (refl
       then refl
       then refl

@@ -38,7 +38,7 @@ module _ (m : List ℕ) (g : Geometry) (a : Came) (t : ℕ) (h : Target m g a t)
   pub write-does : n < 65536 → Does m a (writeCdb flags b n) s r 0 (put m (place g t b) s) r
   write-does small =
       does-quietly m g a t h (writeCdb flags b n) s r Write (tenSaying 0x2A Write a flags b n) (ToWrite (blocks t b n))
-      (ten-says 0x2A Write a flags b n (codes-say .1) tt low small)
+      (ten-says 0x2A Write a flags b n (codes-say .1) refl low small)
       (ap (λ (x : ℕ). not (eqb x 0)) z
       then refl
       then refl
@@ -53,6 +53,6 @@ module _ (m : List ℕ) (g : Geometry) (a : Came) (t : ℕ) (h : Target m g a t)
       → Does m a (xpwriteCdb code flags b n) s r 0 (put m (place g t b) (blocksAt m g t b n ⊻ s)) r
   xpwrite-does code q most =
       does-quietly m g a t h (xpwriteCdb code flags b n) s r XpWrite (tenSaying code XpWrite a flags b n) (ToXpWrite (blocks t b n))
-      (limited-says m g f t b n s w e most code XpWrite a flags q tt)
+      (limited-says m g f t b n s w e most code XpWrite a flags q refl)
       (limited-passes m g f t b n s w e most code XpWrite a flags z [] tt)
       refl refl
