@@ -1,19 +1,20 @@
 -- The CDB of each command, from its code and the fields that it says, and that the step reads these fields from it.
 use Prim.Native.Nat.{ℕ, _+_, _*_, _<_}
 use mathlib.Core.Bool.{false}
-use mathlib.Core.Path.{_≡_, refl, ap₂, _∙_}
+use mathlib.Core.Path.{_≡_, refl, sym, ap, ap₂, _∙_}
 use mathlib.Core.Logic.{_⊎_}
 use mathlib.Core.List.{List, [], _∷_, _++_}
+use lib.Dec.{eqb}
 use lib.ListN.{length, getD}
 use Rattle.octets.specs.Part.{part}
 use Rattle.octets.specs.Number.{num, toBe, num-toBe-lt}
 use Rattle.drives.specs.declared.Came.{Came}
 use Rattle.drives.specs.Table.{to}
 use Rattle.command.specs.declared.Op.{Op}
-use Rattle.command.specs.declared.Op.the-variants.{XdWrite, XpWrite, XdRead, Rebuild, Regenerate, Read, Write, XdWriteTen, XdWriteRead, Unknown}
+use Rattle.command.specs.declared.Op.the-variants.{XdWrite, XpWrite, XdRead, Rebuild, Regenerate, Read, Write, XdWriteTen, XdWriteRead}
 use Rattle.command.specs.declared.Command.{Command}
-use Rattle.command.specs.Command.{opOf, sizeOf, sixteenOf, tenOf, listedOf, commandOf}
-use Rattle.command.specs.Lossless.{cdbOf}
+use Rattle.command.specs.Command.{Layout, Ten, has, opOf, sizeBy, sizeOf, sixteenOf, tenOf, listedOf, commandBy, commandOf}
+use Rattle.command.specs.Lossless.{cdbOf, bytes-by}
 use Rattle.meaning.specs.Checks.{isUnknown}
 
 -- ---- what is said, with the code that says it: what the CDB has no bytes for is zero, and so is what must be
@@ -134,31 +135,17 @@ module _ (code : ℕ) (o : Op) (a : Came) (flags : ℕ) where
   listed-read count list n l = ap₂ (listedSaying code o a flags) (num-toBe-lt 4 count n) (num-toBe-lt 2 list l)
 
 -- the 10-byte commands that name a block
-abbrev pub Ten : Op → Type 0
-Ten XdWrite = ⊥
-Ten XpWrite = Unit {0}
-Ten XdRead = Unit {0}
-Ten Rebuild = ⊥
-Ten Regenerate = ⊥
-Ten Read = Unit {0}
-Ten Write = Unit {0}
-Ten XdWriteTen = Unit {0}
-Ten XdWriteRead = Unit {0}
-Ten Unknown = ⊥
-
-pub ten-says : (code : ℕ) (o : Op) (a : Came) (flags block count : ℕ) → opOf code ≡ o → Ten o → block < 4294967296 → count < 65536
+pub ten-says : (code : ℕ) (o : Op) (a : Came) (flags block count : ℕ) → opOf code ≡ o → has o .layout ≡ Ten → block < 4294967296 → count < 65536
     → Says a (cdbOf (tenSaying code o anyhow flags block count)) o (tenSaying code o a flags block count)
-unfolding cdbOf toBe
-ten-says code XpWrite a flags block count q t b n = record { code = q; known = refl; size = refl; fields = ten-read code XpWrite a flags block count b n }
-ten-says code XdRead a flags block count q t b n = record { code = q; known = refl; size = refl; fields = ten-read code XdRead a flags block count b n }
-ten-says code Read a flags block count q t b n = record { code = q; known = refl; size = refl; fields = ten-read code Read a flags block count b n }
-ten-says code Write a flags block count q t b n = record { code = q; known = refl; size = refl; fields = ten-read code Write a flags block count b n }
-ten-says code XdWriteTen a flags block count q t b n = record { code = q; known = refl; size = refl; fields = ten-read code XdWriteTen a flags block count b n }
-ten-says code XdWriteRead a flags block count q t b n = record { code = q; known = refl; size = refl; fields = ten-read code XdWriteRead a flags block count b n }
-ten-says code XdWrite a flags block count q t b n = absurd t
-ten-says code Rebuild a flags block count q t b n = absurd t
-ten-says code Regenerate a flags block count q t b n = absurd t
-ten-says code Unknown a flags block count q t b n = absurd t
+unfolding toBe
+ten-says code o a flags block count q l b n =
+    let e = bytes-by (tenSaying code o anyhow flags block count) Ten l in
+    record {
+      code = ap (λ (c : List ℕ). opOf (getD c 0 0)) e ∙ q;
+      known = ap (λ (x : Layout). eqb (sizeBy x) 0) l;
+      size = ap length e ∙ sym (ap sizeBy l);
+      fields = ap₂ (λ (x : Layout) (c : List ℕ). commandBy x o a c) l e ∙ ten-read code o a flags block count b n;
+    }
 
 module _ (a : Came) (flags count list : ℕ) (c : count < 4294967296) (l : list < 65536) where
   pub rebuild-says : Says a (cdbOf (listedSaying 0xC3 Rebuild anyhow flags count list)) Rebuild (listedSaying 0xC3 Rebuild a flags count list)

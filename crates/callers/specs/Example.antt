@@ -167,7 +167,7 @@ c10 = read-does bench benchShape (to 1) 0 first 1 1 room (lit≤ tt) 0 refl (lit
 
 pub c11 : Does bench benchShape (to 1) (ten 0xC1 9 0) [] room [] [] (results bench benchShape)
 unfolding cdbOf toBe
-c11 = idle-does bench benchShape (to 1) 0 first 9 (lit≤ tt) room 0xC1 0 XpWrite (codes-say .2) tt refl
+c11 = idle-does bench benchShape (to 1) 0 first 9 (lit≤ tt) room 0xC1 0 XpWrite (codes-say .2) refl refl refl
 
 -- REBUILD without a list
 pub unlisted : Does bench benchShape (to 1) (listCdb 0xC3 0) [] room [] [] (results bench benchShape)

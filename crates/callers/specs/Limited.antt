@@ -16,12 +16,12 @@ use Rattle.drives.specs.declared.Came.{Came}
 use Rattle.sense.specs.declared.Answer.the-variants.{Good, WrongCount}
 use Rattle.command.specs.declared.Op.{Op}
 use Rattle.command.specs.declared.Command.{Command}
-use Rattle.command.specs.Command.{opOf, zeroBits}
+use Rattle.command.specs.Command.{Ten, has, opOf, zeroBits}
 use Rattle.command.specs.Lossless.{cdbOf}
 use Rattle.meaning.specs.declared.Seen.the-variants.{Dash, Cdb}
 use Rattle.meaning.specs.Checks.{Check, zeroFlags, zeroSix, zeroControl, aboveM, inRange}
 use Rattle.meaning.specs.Allowed.{Blocks, Filled, Limited}
-use Rattle.callers.specs.Bytes.{Says, tenSaying, anyhow, Ten, ten-says}
+use Rattle.callers.specs.Bytes.{Says, tenSaying, anyhow, ten-says}
 use Rattle.callers.specs.Does.{blocks}
 use Rattle.callers.specs.Goes.{_then_}
 
@@ -47,7 +47,7 @@ upToRange o g k s = upToData o g k s ++ rule 6 (Cdb 7) (eqb (k .count) 0) Good �
 
 module _ (m : List ℕ) (g : Geometry) (f : Framed m g) (t b n : ℕ) (s : List ℕ) (w : Blocks m g (blocks t b n)) (e : Filled g (blocks t b n) s)
     (most : Limited g (blocks t b n)) (code : ℕ) (o : Op) (a : Came) (flags : ℕ) where
-  pub limited-says : opOf code ≡ o → Ten o → Says a (cdbOf (tenSaying code o anyhow flags b n)) o (tenSaying code o a flags b n)
+  pub limited-says : opOf code ≡ o → has o .layout ≡ Ten → Says a (cdbOf (tenSaying code o anyhow flags b n)) o (tenSaying code o a flags b n)
   limited-says q i =
       ten-says code o a flags b n q i (omega (arith, f .placed .ranges .b-high, w .range .range-in)) (omega (arith, most, f .placed .ranges .m-high))
 

@@ -24,7 +24,7 @@ use Rattle.command.specs.Sent.{sent-exact}
 use Rattle.meaning.specs.declared.Span.{Span}
 use Rattle.meaning.specs.declared.Seen.the-variants.{Dash, Cdb, List as InList}
 use Rattle.meaning.specs.Sources.{firstBad}
-use Rattle.meaning.specs.Checks.{Check, isNothing, zeroSix, zeroControl, isFault, listFlags, idle, listRules, resolved, inRange, sourceRules, spanOf}
+use Rattle.meaning.specs.Checks.{Check, isNothing, zeroFlags, zeroSix, zeroControl, isFault, listFlags, idle, listRules, resolved, inRange, sourceRules, spanOf}
 use Rattle.meaning.specs.Allowed.{Blocks, Sourced}
 use Rattle.callers.specs.Bytes.{Together, listedSaying}
 use Rattle.callers.specs.Lists.{Headed}
@@ -80,7 +80,7 @@ module _ (m : List ℕ) (g : Geometry) (a : Came) (t b n count sources flags int
 
   -- every check, with one more of byte 2 and others in place of check 9
   pub all-pass : (u : Bool) (ys : List Check) → u ≡ false → AllPass ys
-      → AllPass (listFlags o k ++ rule 4 (Cdb 2) u BadField ∷ zeroSix k ++ zeroControl 9 k
+      → AllPass (zeroFlags o k ++ listFlags k ++ rule 4 (Cdb 2) u BadField ∷ zeroSix k ++ zeroControl 9 k
       ++ rule 5 Dash (not (eqb (length s) (listBytes k (g .l)))) WrongCount
       ∷ idle Rebuild k ++ listRules m g t k s ++ inRange (InList 4) g (resolved g k s)
       ++ ys ++ sourceRules (firstBad m g a s (resolved g k s .count) 0 (getD s 0 0)))

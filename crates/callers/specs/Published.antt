@@ -48,7 +48,7 @@ module _ (m : List ℕ) (g : Geometry) (a : Came) (t : ℕ) (h : Target m g a t)
       let k = tenSaying 0x50 XdWriteTen a flags b n in
       does m g (h .shelf) a (xdwriteTenCdb flags b n) s r (Retain (blocks t b n) i 0 disable)
       (goes m g a t h (xdwriteTenCdb flags b n) s r XdWriteTen k (Retain (blocks t b n) i 0 disable)
-      (limited-says m g f t b n s w e most 0x50 XdWriteTen a flags (codes-say .6) tt)
+      (limited-says m g f t b n s w e most 0x50 XdWriteTen a flags (codes-say .6) refl)
       (limited-passes m g f t b n s w e most 0x50 XdWriteTen a flags (z .no-other) (busy XdWriteTen m g k) (ap isNothing (v .takes) then tt))
       (ap₂ (λ (x : Found) (y : ℕ). Go (Retain (blocks t b n) (index x) 0 y) Good) (v .takes) (z .disable-is)))
 
@@ -59,7 +59,7 @@ module _ (m : List ℕ) (g : Geometry) (a : Came) (t : ℕ) (h : Target m g a t)
       let k = tenSaying 0x53 XdWriteRead a flags b n in
       does m g (h .shelf) a (xdwritereadCdb flags b n) s r (ToXdWriteRead (blocks t b n) disable)
       (goes m g a t h (xdwritereadCdb flags b n) s r XdWriteRead k (ToXdWriteRead (blocks t b n) disable)
-      (limited-says m g f t b n s w e most 0x53 XdWriteRead a flags (codes-say .7) tt)
+      (limited-says m g f t b n s w e most 0x53 XdWriteRead a flags (codes-say .7) refl)
       (limited-passes m g f t b n s w e most 0x53 XdWriteRead a flags (z .no-other) (roomRule g k (length r))
       (le-ltb (length r) (n * g .l) fits then tt))
       (ap (λ (y : ℕ). Go (ToXdWriteRead (blocks t b n) y) Good) (z .disable-is)))

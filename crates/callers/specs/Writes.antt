@@ -40,7 +40,7 @@ module _ (m : List ℕ) (g : Geometry) (a : Came) (t : ℕ) (h : Target m g a t)
   write-does small =
       does m g (h .shelf) a (writeCdb flags b n) s r (ToWrite (blocks t b n))
       (goes m g a t h (writeCdb flags b n) s r Write (tenSaying 0x2A Write a flags b n) (ToWrite (blocks t b n))
-      (ten-says 0x2A Write a flags b n (codes-say .1) tt low small)
+      (ten-says 0x2A Write a flags b n (codes-say .1) refl low small)
       (ap (λ (x : ℕ). not (eqb x 0)) z
       then refl
       then refl
@@ -56,6 +56,6 @@ module _ (m : List ℕ) (g : Geometry) (a : Came) (t : ℕ) (h : Target m g a t)
   xpwrite-does code q most =
       does m g (h .shelf) a (xpwriteCdb code flags b n) s r (ToXpWrite (blocks t b n))
       (goes m g a t h (xpwriteCdb code flags b n) s r XpWrite (tenSaying code XpWrite a flags b n) (ToXpWrite (blocks t b n))
-      (limited-says m g f t b n s w e most code XpWrite a flags q tt)
+      (limited-says m g f t b n s w e most code XpWrite a flags q refl)
       (limited-passes m g f t b n s w e most code XpWrite a flags z [] tt)
       refl)

@@ -34,33 +34,105 @@ opOf code =
     (cond (eqb code 0x53) XdWriteRead
     (opOf1994 code))))
 
--- "Length"
-abbrev pub sizeOf : Op → ℕ
-sizeOf XdWrite = 16
-sizeOf XpWrite = 10
-sizeOf XdRead = 10
-sizeOf Rebuild = 10
-sizeOf Regenerate = 10
-sizeOf Read = 10
-sizeOf Write = 10
-sizeOf XdWriteTen = 10
-sizeOf XdWriteRead = 10
-sizeOf Unknown = 0
+-- ---- what an operation has
 
--- "XDWRITE byte 1: bit 6 Mirror, 5 NDisc, 4 DPO, 3 FUA, 2-1 Sec Ctl. REBUILD and REGENERATE byte 1: bit 2 Int Data, 1-0 Sec Ctl. XPWRITE,
--- READ and WRITE: bit 4 DPO, 3 FUA. All other bits of byte 1 .. must be zero.": those others. A1: "Byte 1 has bit 4 DPO and 3 FUA (not
--- 52h), 2 DISABLE WRITE (50h, 53h)."; "other bits of byte 1 are zero"
+-- how its CDB is laid out: 16 bytes, 10 bytes, 10 bytes for a list; an unknown code has no length of its own
+pub data Layout : Type 0 where
+  Sixteen : Layout
+  Ten : Layout
+  ByList : Layout
+  NoLayout : Layout
+
+-- which bits of byte 1 are named: "XDWRITE byte 1: bit 6 Mirror, 5 NDisc, 4 DPO, 3 FUA, 2-1 Sec Ctl. REBUILD and REGENERATE byte 1: bit 2 Int
+-- Data, 1-0 Sec Ctl. XPWRITE, READ and WRITE: bit 4 DPO, 3 FUA."; A1: "bit 4 DPO and 3 FUA (not 52h), 2 DISABLE WRITE (50h, 53h)"
+pub data FlagBits : Type 0 where
+  SecBits : FlagBits
+  ListBits : FlagBits
+  CacheBits : FlagBits
+  DisableBits : FlagBits
+  NoBits : FlagBits
+  AnyBits : FlagBits
+
+-- which lengths it refuses: "XDWRITE, XPWRITE or REGENERATE length above M; REBUILD length FFFFFFFFh with Int Data"; A1: 53h "has limit M"
+pub data Limit : Type 0 where
+  UpToM : Limit
+  NotToEnd : Limit
+  NoLimit : Limit
+
+-- what is sent and handed out: "XDWRITE, XPWRITE, WRITE send length*L", "REBUILD and REGENERATE list length plus, with Int Data, length*L", "READ
+-- and XDREAD nothing", which fill the receive room; A1: 53h "sends length*L" and "puts the XOR in the receive room"
+pub data Moves : Type 0 where
+  DataSent : Moves
+  ListSent : Moves
+  HandedOut : Moves
+  Exchanged : Moves
+  NoBytes : Moves
+
+-- what it works on: blocks, of which zero are GOOD, or the newest result at a block, which has the length that is asked for or none
+pub data Works : Type 0 where
+  OnBlocks : Works
+  OnResult : Works
+
+-- whether there is "something to retain": XDWRITE "Sec Ctl 11: the result is retained", "REGENERATE .. retains the XOR"; A1: "50h always retains"
+pub data Keeping : Type 0 where
+  Always : Keeping
+  WithEleven : Keeping
+  Never : Keeping
+
+-- whose it is: 01's, or A1's own
+pub data Since : Type 0 where
+  Of1994 : Since
+  OfA1 : Since
+
+pub record Traits : Type 0 where
+  pub layout : Layout
+  pub bits : FlagBits
+  pub limit : Limit
+  pub moves : Moves
+  pub works : Works
+  pub keeps : Keeping
+  pub since : Since
+
+abbrev row : Layout → FlagBits → Limit → Moves → Works → Keeping → Since → Traits
+row layout bits limit moves works keeps since =
+    record { layout = layout; bits = bits; limit = limit; moves = moves; works = works; keeps = keeps; since = since }
+
+-- 01's "Code | Command | Length | Fields" and A1's, operation by operation
+abbrev pub has : Op → Traits
+has XdWrite = row Sixteen SecBits UpToM DataSent OnBlocks WithEleven Of1994
+has XpWrite = row Ten CacheBits UpToM DataSent OnBlocks Never Of1994
+has XdRead = row Ten NoBits NoLimit HandedOut OnResult Never Of1994
+has Rebuild = row ByList ListBits NotToEnd ListSent OnBlocks Never Of1994
+has Regenerate = row ByList ListBits UpToM ListSent OnBlocks Always Of1994
+has Read = row Ten CacheBits NoLimit HandedOut OnBlocks Never Of1994
+has Write = row Ten CacheBits NoLimit DataSent OnBlocks Never Of1994
+has XdWriteTen = row Ten DisableBits UpToM DataSent OnBlocks Always OfA1
+has XdWriteRead = row Ten DisableBits UpToM Exchanged OnBlocks Never OfA1
+has Unknown = row NoLayout AnyBits NoLimit NoBytes OnBlocks Never Of1994
+
+-- "Length"
+abbrev pub sizeBy : Layout → ℕ
+sizeBy Sixteen = 16
+sizeBy Ten = 10
+sizeBy ByList = 10
+sizeBy NoLayout = 0
+
+abbrev pub sizeOf : Op → ℕ
+sizeOf o = sizeBy (has o .layout)
+
+-- "All other bits of byte 1 .. must be zero."; A1: "other bits of byte 1 are zero": those others
+abbrev pub zeroBy : FlagBits → ℕ
+zeroBy SecBits = 0x81
+zeroBy ListBits = 0xF8
+zeroBy CacheBits = 0xE7
+zeroBy DisableBits = 0xE3
+zeroBy NoBits = 0xFF
+zeroBy AnyBits = 0
+
 abbrev pub zeroBits : Op → ℕ
-zeroBits XdWrite = 0x81
-zeroBits XpWrite = 0xE7
-zeroBits XdRead = 0xFF
-zeroBits Rebuild = 0xF8
-zeroBits Regenerate = 0xF8
-zeroBits Read = 0xE7
-zeroBits Write = 0xE7
-zeroBits XdWriteTen = 0xE3
-zeroBits XdWriteRead = 0xE3
-zeroBits Unknown = 0
+zeroBits o = zeroBy (has o .bits)
+
+-- ---- the command in a CDB
 
 -- "block 2-5, length 6-7, secondary address 8-10, secondary block 11-14"
 unfoldable pub sixteenOf : Op → Came → List ℕ → Command
@@ -114,17 +186,14 @@ listedOf o a c =
     }
 
 -- "Fields"
+abbrev pub commandBy : Layout → Op → Came → List ℕ → Command
+commandBy Sixteen o a c = sixteenOf o a c
+commandBy Ten o a c = tenOf o a c
+commandBy ByList o a c = listedOf o a c
+commandBy NoLayout o a c = tenOf o a c
+
 abbrev pub commandOf : Op → Came → List ℕ → Command
-commandOf XdWrite a c = sixteenOf XdWrite a c
-commandOf XpWrite a c = tenOf XpWrite a c
-commandOf XdRead a c = tenOf XdRead a c
-commandOf Rebuild a c = listedOf Rebuild a c
-commandOf Regenerate a c = listedOf Regenerate a c
-commandOf Read a c = tenOf Read a c
-commandOf Write a c = tenOf Write a c
-commandOf XdWriteTen a c = tenOf XdWriteTen a c
-commandOf XdWriteRead a c = tenOf XdWriteRead a c
-commandOf Unknown a c = tenOf Unknown a c
+commandOf o a c = commandBy (has o .layout) o a c
 
 -- XDWRITE: "bit 6 Mirror, 5 NDisc, .., 2-1 Sec Ctl"
 abbrev pub mirrorOf : Command → ℕ

@@ -10,23 +10,19 @@ use Rattle.octets.specs.Part.{part, part-add, part-snoc, part-all}
 use Rattle.octets.specs.Number.{be, toBe, put-be}
 use Rattle.drives.specs.declared.Came.{Came}
 use Rattle.command.specs.declared.Op.{Op}
-use Rattle.command.specs.declared.Op.the-variants.{XdWrite, XpWrite, XdRead, Rebuild, Regenerate, Read, Write, XdWriteTen, XdWriteRead, Unknown}
 use Rattle.command.specs.declared.Command.{Command}
-use Rattle.command.specs.Command.{sizeOf, sixteenOf, tenOf, listedOf, commandOf}
+use Rattle.command.specs.Command.{Layout, Sixteen, Ten, ByList, NoLayout, has, sizeBy, sizeOf, sixteenOf, tenOf, listedOf, commandBy, commandOf}
 
 -- a decoded command keeps its operation, and how it came
-pub command-kept : (o : Op) (a : Came) (c : List ℕ) → (commandOf o a c .op ≡ o) × (commandOf o a c .came ≡ a)
+by-kept : (l : Layout) (o : Op) (a : Came) (c : List ℕ) → (commandBy l o a c .op ≡ o) × (commandBy l o a c .came ≡ a)
 unfolding sixteenOf tenOf listedOf
-command-kept XdWrite a c = (refl, refl)
-command-kept XpWrite a c = (refl, refl)
-command-kept XdRead a c = (refl, refl)
-command-kept Rebuild a c = (refl, refl)
-command-kept Regenerate a c = (refl, refl)
-command-kept Read a c = (refl, refl)
-command-kept Write a c = (refl, refl)
-command-kept XdWriteTen a c = (refl, refl)
-command-kept XdWriteRead a c = (refl, refl)
-command-kept Unknown a c = (refl, refl)
+by-kept Sixteen o a c = (refl, refl)
+by-kept Ten o a c = (refl, refl)
+by-kept ByList o a c = (refl, refl)
+by-kept NoLayout o a c = (refl, refl)
+
+pub command-kept : (o : Op) (a : Came) (c : List ℕ) → (commandOf o a c .op ≡ o) × (commandOf o a c .came ≡ a)
+command-kept o = by-kept (has o .layout) o
 
 -- ---- the CDB
 
@@ -42,21 +38,19 @@ tenBytes k = headOf k ++ toBe 4 (k .block .0) ++ k .six ∷ [] ++ toBe 2 (k .cou
 abbrev listedBytes : Command → List ℕ
 listedBytes k = headOf k ++ toBe 4 (k .count) ++ k .six ∷ [] ++ toBe 2 (k .list) ++ k .control ∷ []
 
-abbrev bytesBy : Op → Command → List ℕ
-bytesBy XdWrite k = sixteenBytes k
-bytesBy XpWrite k = tenBytes k
-bytesBy XdRead k = tenBytes k
-bytesBy Rebuild k = listedBytes k
-bytesBy Regenerate k = listedBytes k
-bytesBy Read k = tenBytes k
-bytesBy Write k = tenBytes k
-bytesBy XdWriteTen k = tenBytes k
-bytesBy XdWriteRead k = tenBytes k
-bytesBy Unknown k = []
+abbrev pub bytesBy : Layout → Command → List ℕ
+bytesBy Sixteen k = sixteenBytes k
+bytesBy Ten k = tenBytes k
+bytesBy ByList k = listedBytes k
+bytesBy NoLayout k = []
 
 -- the bytes that a command is written as
 unfoldable pub cdbOf : Command → List ℕ
-cdbOf k = bytesBy (k .op) k
+cdbOf k = bytesBy (has (k .op) .layout) k
+
+pub bytes-by : (k : Command) (l : Layout) → has (k .op) .layout ≡ l → cdbOf k ≡ bytesBy l k
+unfolding cdbOf
+bytes-by k l e = ap (λ (x : Layout). bytesBy x k) e
 
 module _ (a : Came) (c : List ℕ) (b : Octets c) where
   -- the front of the CDB is written: a byte more, and a number of m bytes more
@@ -84,19 +78,17 @@ module _ (a : Came) (c : List ℕ) (b : Octets c) where
       → getD c 0 0 ∷ getD c 1 0 ∷ [] ++ toBe 4 (be 4 c 2) ++ getD c 6 0 ∷ [] ++ toBe 2 (be 2 c 7) ++ getD c 9 0 ∷ [] ≡ c
   ten-back l = byte 9 (omega arith) (number 2 7 (omega arith) (byte 6 (omega arith) (number 4 2 (omega arith) (head (omega arith))))) ∙ all 10 l
 
+  by-layout : (l : Layout) (o : Op) → length c ≡ sizeBy l → bytesBy l (commandBy l o a c) ≡ c
+  unfolding sixteenOf tenOf listedOf part
+  by-layout Sixteen o l = sixteen-back l
+  by-layout Ten o l = ten-back l
+  by-layout ByList o l = ten-back l
+  by-layout NoLayout o l = all 0 l
+
   -- a CDB of a command's length is what the command is written as
   pub lossless : (o : Op) → length c ≡ sizeOf o → cdbOf (commandOf o a c) ≡ c
-  unfolding cdbOf sixteenOf tenOf listedOf part
-  lossless XdWrite l = sixteen-back l
-  lossless XpWrite l = ten-back l
-  lossless XdRead l = ten-back l
-  lossless Rebuild l = ten-back l
-  lossless Regenerate l = ten-back l
-  lossless Read l = ten-back l
-  lossless Write l = ten-back l
-  lossless XdWriteTen l = ten-back l
-  lossless XdWriteRead l = ten-back l
-  lossless Unknown l = all 0 l
+  unfolding cdbOf
+  lossless o l = ap (λ (x : Op). bytesBy (has x .layout) (commandOf o a c)) (command-kept o a c .0) ∙ by-layout (has o .layout) o l
 
 -- two CDBs that say the same are the same
 pub same-cdb : (o : Op) (a a′ : Came) (c c′ : List ℕ) → Octets c → Octets c′ → length c ≡ sizeOf o → length c′ ≡ sizeOf o → commandOf o a c ≡ commandOf o a′ c′ → c ≡ c′

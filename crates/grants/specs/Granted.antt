@@ -5,7 +5,7 @@ use mathlib.Core.Path.{_≡_, sym, ap, subst, _∙_}
 use lib.ListN.{getD}
 use borrow.Author.Tests.{not-false}
 use Rattle.folds.specs.declared.Found.the-variants.{At}
-use Rattle.rules.specs.Rule.{passed}
+use Rattle.rules.specs.Rule.{AllPass, passed}
 use Rattle.folds.specs.Least.{index}
 use Rattle.geometry.specs.declared.Geometry.{Geometry}
 use Rattle.geometry.specs.Header.{geometryOf}
@@ -21,8 +21,8 @@ use Rattle.meaning.specs.declared.Act.{Act}
 use Rattle.meaning.specs.declared.Decision.the-variants.{Stop, Go}
 use Rattle.meaning.specs.Checks.{checks, carriedOut, decideFor, decideOf}
 use Rattle.meaning.specs.Allowed.{Allowed}
-use Rattle.grants.specs.Passed.{passed-by, found}
-use Rattle.grants.specs.Each.{worksOn, no-stop, of-each}
+use Rattle.grants.specs.Passed.{found, Through, through}
+use Rattle.grants.specs.Each.{worksOn, no-stop, Grants, of-each}
 
 -- what a decision to do x and answer y says: image m, a command that came as a, data-out bytes s, r bytes of receive room
 pub record Granted (m : List ℕ) (a : Came) (s : List ℕ) (r : ℕ) (x : Act) (y : Answer) : Type 0 where
@@ -31,19 +31,39 @@ pub record Granted (m : List ℕ) (a : Came) (s : List ℕ) (r : ℕ) (x : Act) 
   pub target : targetOf m (geometryOf m) a ≡ At (worksOn x)
   pub allowed : Allowed m (geometryOf m) s r x
 
--- of an operation o
+-- no check applies
+module _ (o : Op) (m : List ℕ) (a : Came) (c s : List ℕ) (r : ℕ) (p : AllPass (checks o m a c s r)) where
+  abbrev g : Geometry
+  g = geometryOf m
+
+  abbrev t : ℕ
+  t = index (targetOf m g a)
+
+  w : Through o m g a t c s r
+  w = through o m g a t c s r p
+
+  by-valid : Shelf m g
+  by-valid = shelf m (not-false _ (w .calls-pass .0))
+
+  by-target : targetOf m g a ≡ At t
+  by-target = found (targetOf m g a) (w .calls-pass .1 .0)
+
+  pub by-checks : Grants o m g t (commandOf o a c) s r
+  by-checks = of-each m g t s r by-valid (drive-inside m g (a .target .0) t by-target .0) (w .known-pass .1 .0) (commandOf o a c) o (w .known-pass .0) (w .later)
+
 pub granted-by : (o : Op) (m : List ℕ) (a : Came) (c s : List ℕ) (r : ℕ) (x : Act) (y : Answer) → decideFor o m a c s r ≡ Go x y → Granted m a s r x y
 granted-by o m a c s r x y e =
-    let g = geometryOf m in
     let w = passed Stop (checks o m a c s r) (carriedOut o m a c s) (Go x y) (λ n w z. no-stop n w z x y) e in
-    let p = w .0 in
-    let v = shelf m (not-false _ (p .0)) in
-    let f = found (targetOf m g a) (p .1 .0) in
-    let t = index (targetOf m g a) in
-    let k = commandOf o a c in
-    let all = passed-by o m g t k s r (p .1 .1 .1 .1 .1 .1) in
-    let h = of-each m g t s r v (drive-inside m g (a .target .0) t f .0) (p .1 .1 .1 .1 .1 .0) x y o k all (w .1) in
-    record { good = h .good; valid = v; target = f ∙ ap At (sym (h .drive)); allowed = h .allowed }
+    let h = by-checks o m a c s r (w .0) in
+    let q : Go (h .act) Good ≡ Go x y = sym (h .goes) ∙ w .1 in
+    let same : h .act ≡ x = cc in
+    let good : Good ≡ y = cc in
+    record {
+      good = sym good;
+      valid = by-valid o m a c s r (w .0);
+      target = by-target o m a c s r (w .0) ∙ ap At (sym (h .drive) ∙ ap worksOn same);
+      allowed = subst (Allowed m (geometryOf m) s r) same (h .allowed);
+    }
 
 -- the licence of the code that acts
 pub granted : (m : List ℕ) (a : Came) (c s : List ℕ) (r : ℕ) (x : Act) (y : Answer) → decideOf m a c s r ≡ Go x y → Granted m a s r x y

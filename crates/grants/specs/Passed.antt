@@ -6,23 +6,22 @@ use mathlib.Core.List.{List, [], _∷_, _++_}
 use mathlib.Core.Path.{_≡_, refl}
 use lib.Dec.{eqb}
 use lib.ListN.{length, getD}
-use borrow.Author.Tests.{eqb-true, eqb-false, ltb-false, not-false}
+use borrow.Author.Tests.{eqb-true, eqb-false, not-false}
 use Rattle.folds.specs.declared.Found.{Found}
 use Rattle.folds.specs.declared.Found.the-variants.{At, Nothing}
 use Rattle.folds.specs.Least.{index}
 use Rattle.rules.specs.Rule.{rule, AllPass, pass-both}
 use Rattle.geometry.specs.declared.Geometry.{Geometry}
-use Rattle.drives.specs.Table.{secondaryOf}
+use Rattle.drives.specs.declared.Came.{Came}
 use Rattle.sense.specs.declared.Answer.the-variants.{Good, WrongCount}
 use Rattle.command.specs.declared.Op.{Op}
-use Rattle.command.specs.declared.Op.the-variants.{XdWrite}
 use Rattle.command.specs.declared.Command.{Command}
-use Rattle.command.specs.Command.{secOf}
+use Rattle.command.specs.Command.{Sixteen, Ten, ByList, Limit, commandOf}
 use Rattle.meaning.specs.declared.Fault.{Fault}
 use Rattle.meaning.specs.declared.Fault.the-variants.{Clear, Absent, Failed, Beyond}
 use Rattle.meaning.specs.declared.Seen.the-variants.{Dash, Cdb}
 use Rattle.meaning.specs.Sources.{isAt, ownEntry}
-use Rattle.meaning.specs.Checks.{isNothing, fields, sends, idle, listLength, listHead, listRules, lists, ranges, busy, nested, rooms, isFault, commandChecks}
+use Rattle.meaning.specs.Checks.{isNothing, zeroFlags, zeroSix, zeroControl, limits, secFlags, listFlags, ownSecond, fieldsBy, fields, sends, idle, listLength, listHead, listRules, lists, ranges, busy, nested, rooms, isFault, calls, cdbCalls, known, commandChecks, checksFor}
 
 -- ---- the tests
 
@@ -95,13 +94,39 @@ passed-by o m g t k s room p =
       room-pass = r .1;
     }
 
--- of the checks of fields, those that grant something: XDWRITE's length and secondary, the other lengths
-pub record SecondFields (m : List ℕ) (g : Geometry) (t : ℕ) (k : Command) : Type 0 where
-  pub at-most : k .count ≤ g .m
-  pub not-own : (not (eqb (secOf k) 3) && isAt t (secondaryOf m g (k .came) (k .second .0))) ≡ false
+-- and so with the checks in front of them
+pub record Through (o : Op) (m : List ℕ) (g : Geometry) (a : Came) (t : ℕ) (c s : List ℕ) (room : ℕ) : Type 0 where
+  pub calls-pass : AllPass (calls m a)
+  pub known-pass : AllPass (known m g t o)
+  pub later : Passed o m g t (commandOf o a c) s room
 
-pub second-fields : (m : List ℕ) (g : Geometry) (t : ℕ) (k : Command) → AllPass (fields XdWrite m g t k) → SecondFields m g t k
-second-fields m g t k p = record { at-most = ltb-false _ _ (p .1 .1 .1 .0); not-own = p .1 .1 .1 .1 .0 }
+pub through : (o : Op) (m : List ℕ) (g : Geometry) (a : Came) (t : ℕ) (c s : List ℕ) (room : ℕ) → AllPass (checksFor o m g a t c s room) → Through o m g a t c s room
+through o m g a t c s room p =
+    let to-3 = calls m a ++ cdbCalls o c ++ known m g t o in
+    let w = pass-both to-3 (commandChecks o m g t (commandOf o a c) s room) p in
+    let n = pass-both (calls m a ++ cdbCalls o c) (known m g t o) (w .0) in
+    record {
+      calls-pass = pass-both (calls m a) (cdbCalls o c) (n .0) .0;
+      known-pass = n .1;
+      later = passed-by o m g t (commandOf o a c) s room (w .1);
+    }
+
+-- of the checks of fields, those that grant something: the length's and the secondary's
+module _ (x : Limit) (o : Op) (m : List ℕ) (g : Geometry) (t : ℕ) (k : Command) where
+  pub sixteen-fields : AllPass (fieldsBy Sixteen x o m g t k) → AllPass (limits x 6 g k) × AllPass (ownSecond m g t k)
+  sixteen-fields p =
+      let to-limit = zeroFlags o k ++ secFlags k ++ limits x 6 g k in
+      let own = pass-both to-limit (ownSecond m g t k) (pass-both (to-limit ++ ownSecond m g t k) (zeroControl 15 k) p .0) in
+      (pass-both (zeroFlags o k ++ secFlags k) (limits x 6 g k) (own .0) .1, own .1)
+
+  pub ten-limit : AllPass (fieldsBy Ten x o m g t k) → AllPass (limits x 7 g k)
+  ten-limit p = pass-both (zeroFlags o k ++ zeroSix k) (limits x 7 g k) (pass-both (zeroFlags o k ++ zeroSix k ++ limits x 7 g k) (zeroControl 9 k) p .0) .1
+
+  pub list-limit : AllPass (fieldsBy ByList x o m g t k) → AllPass (limits x 2 g k)
+  list-limit p =
+      let to-limit = zeroFlags o k ++ listFlags k ++ limits x 2 g k in
+      let to-six = pass-both (to-limit ++ zeroSix k) (zeroControl 9 k) p .0 in
+      pass-both (zeroFlags o k ++ listFlags k) (limits x 2 g k) (pass-both to-limit (zeroSix k) to-six .0) .1
 
 -- the list: its length, its sources, none of which is the target, and that there is something to do
 pub record ListRead (m : List ℕ) (g : Geometry) (t : ℕ) (k : Command) (s : List ℕ) : Type 0 where

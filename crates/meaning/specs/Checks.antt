@@ -1,5 +1,5 @@
 -- 01, "Answers and the order of checks": "The first that applies decides". Within one check the rules stand by the byte they look at.
--- The published codes of 02, A1, have the same checks in the same order. Where a table goes by operation, those of 1994 stand first.
+-- The published codes of 02, A1, have the same checks in the same order. What an operation has is in the table of `command`.
 -- A rule is: 01's check, where it is seen, whether it applies, the answer. `room` is the receive room's length.
 use Prim.Native.Nat.{ℕ, _+_, _*_}
 use mathlib.Core.Bool.{Bool, true, false, not, _&&_, cond}
@@ -24,7 +24,7 @@ use Rattle.sense.specs.declared.Answer.the-variants.{Good, Busy, BadImage, NoTa
 use Rattle.command.specs.declared.Op.{Op}
 use Rattle.command.specs.declared.Op.the-variants.{XdWrite, XpWrite, XdRead, Rebuild, Regenerate, Read, Write, XdWriteTen, XdWriteRead, Unknown}
 use Rattle.command.specs.declared.Command.{Command}
-use Rattle.command.specs.Command.{opOf, sizeOf, zeroBits, commandOf, mirrorOf, ndiscOf, secOf, intOf, listSecOf, disableOf, ownOf, resolvedOf, listBytes}
+use Rattle.command.specs.Command.{Layout, Sixteen, Ten, ByList, NoLayout, Limit, UpToM, NotToEnd, NoLimit, Moves, DataSent, ListSent, HandedOut, Exchanged, NoBytes, Works, OnBlocks, OnResult, Keeping, Always, WithEleven, Never, has, opOf, sizeOf, zeroBits, commandOf, mirrorOf, ndiscOf, secOf, intOf, listSecOf, disableOf, ownOf, resolvedOf, listBytes}
 use Rattle.meaning.specs.declared.Span.{Span}
 use Rattle.meaning.specs.declared.Sum.{Sum}
 use Rattle.meaning.specs.declared.Act.the-variants.{Read as ToRead, Write as ToWrite, XpWrite as ToXpWrite, XdRead as ToXdRead, Couple, Retain, Rebuild as ToRebuild, Regenerate as ToRegenerate, XdWriteRead as ToXdWriteRead}
@@ -81,60 +81,58 @@ zeroControl at k = rule 4 (Cdb at) (not (eqb (k .control) 0)) BadField ∷ []
 abbrev pub aboveM : ℕ → Geometry → Command → List Check
 aboveM at g k = rule 4 (Cdb at) (ltb (g .m) (k .count)) BadField ∷ []
 
--- "Sec Ctl 01; Sec Ctl 11 in REBUILD or REGENERATE"
-abbrev pub listFlags : Op → Command → List Check
-listFlags o k =
-    zeroFlags o k
-    ++ rule 4 (Cdb 1) (eqb (listSecOf k) 1) BadField
-    ∷ rule 4 (Cdb 1) (eqb (listSecOf k) 3) BadField
-    ∷ []
+-- "REBUILD length FFFFFFFFh with Int Data"
+abbrev pub limits : Limit → ℕ → Geometry → Command → List Check
+limits UpToM at g k = aboveM at g k
+limits NotToEnd at g k = rule 4 (Cdb at) (not (eqb (intOf k) 0) && eqb (k .count) 0xFFFFFFFF) BadField ∷ []
+limits NoLimit at g k = []
 
--- "NDisc without 11; secondary address equal to the target's (Sec Ctl 00, 10)"; "REBUILD length FFFFFFFFh with Int Data"
+-- "Sec Ctl 01; .. NDisc without 11"
+abbrev pub secFlags : Command → List Check
+secFlags k = rule 4 (Cdb 1) (eqb (secOf k) 1) BadField ∷ rule 4 (Cdb 1) (not (eqb (secOf k) 3) && eqb (ndiscOf k) 1) BadField ∷ []
+
+-- "Sec Ctl 01; Sec Ctl 11 in REBUILD or REGENERATE"
+abbrev pub listFlags : Command → List Check
+listFlags k = rule 4 (Cdb 1) (eqb (listSecOf k) 1) BadField ∷ rule 4 (Cdb 1) (eqb (listSecOf k) 3) BadField ∷ []
+
+-- "secondary address equal to the target's (Sec Ctl 00, 10)"
+abbrev pub ownSecond : List ℕ → Geometry → ℕ → Command → List Check
+ownSecond m g t k = rule 4 (Cdb 8) (not (eqb (secOf k) 3) && isAt t (secondaryOf m g (k .came) (k .second .0))) BadField ∷ []
+
+abbrev pub fieldsBy : Layout → Limit → Op → List ℕ → Geometry → ℕ → Command → List Check
+fieldsBy Sixteen x o m g t k = zeroFlags o k ++ secFlags k ++ limits x 6 g k ++ ownSecond m g t k ++ zeroControl 15 k
+fieldsBy Ten x o m g t k = zeroFlags o k ++ zeroSix k ++ limits x 7 g k ++ zeroControl 9 k
+fieldsBy ByList x o m g t k = zeroFlags o k ++ listFlags k ++ limits x 2 g k ++ zeroSix k ++ zeroControl 9 k
+fieldsBy NoLayout x o m g t k = []
+
 abbrev pub fields : Op → List ℕ → Geometry → ℕ → Command → List Check
-fields XdWrite m g t k =
-    zeroFlags XdWrite k
-    ++ rule 4 (Cdb 1) (eqb (secOf k) 1) BadField
-    ∷ rule 4 (Cdb 1) (not (eqb (secOf k) 3) && eqb (ndiscOf k) 1) BadField
-    ∷ aboveM 6 g k
-    ++ rule 4 (Cdb 8) (not (eqb (secOf k) 3) && isAt t (secondaryOf m g (k .came) (k .second .0))) BadField
-    ∷ zeroControl 15 k
-fields XpWrite m g t k = zeroFlags XpWrite k ++ zeroSix k ++ aboveM 7 g k ++ zeroControl 9 k
-fields XdRead m g t k = zeroFlags XdRead k ++ zeroSix k ++ zeroControl 9 k
-fields Rebuild m g t k =
-    listFlags Rebuild k ++ rule 4 (Cdb 2) (not (eqb (intOf k) 0) && eqb (k .count) 0xFFFFFFFF) BadField ∷ zeroSix k ++ zeroControl 9 k
-fields Regenerate m g t k = listFlags Regenerate k ++ aboveM 2 g k ++ zeroSix k ++ zeroControl 9 k
-fields Read m g t k = zeroFlags Read k ++ zeroSix k ++ zeroControl 9 k
-fields Write m g t k = zeroFlags Write k ++ zeroSix k ++ zeroControl 9 k
-fields XdWriteTen m g t k = zeroFlags XdWriteTen k ++ zeroSix k ++ aboveM 7 g k ++ zeroControl 9 k
-fields XdWriteRead m g t k = zeroFlags XdWriteRead k ++ zeroSix k ++ aboveM 7 g k ++ zeroControl 9 k
-fields Unknown m g t k = []
+fields o m g t k = fieldsBy (has o .layout) (has o .limit) o m g t k
 
 -- 5. "Call 4. XDWRITE, XPWRITE, WRITE send length*L; REBUILD and REGENERATE list length plus, with Int Data, length*L, or nothing if the
 -- list length is 0; READ and XDREAD nothing." A1: 53h "sends length*L".
+abbrev pub sendsBy : Moves → Geometry → Command → ℕ
+sendsBy DataSent g k = k .count * g .l
+sendsBy ListSent g k = listBytes k (g .l)
+sendsBy HandedOut g k = 0
+sendsBy Exchanged g k = k .count * g .l
+sendsBy NoBytes g k = 0
+
 abbrev pub sends : Op → Geometry → Command → ℕ
-sends XdWrite g k = k .count * g .l
-sends XpWrite g k = k .count * g .l
-sends XdRead g k = 0
-sends Rebuild g k = listBytes k (g .l)
-sends Regenerate g k = listBytes k (g .l)
-sends Read g k = 0
-sends Write g k = k .count * g .l
-sends XdWriteTen g k = k .count * g .l
-sends XdWriteRead g k = k .count * g .l
-sends Unknown g k = 0
+sends o g k = sendsBy (has o .moves) g k
 
 -- 6. "GOOD for zero length (READ, WRITE, XDWRITE, XPWRITE) or list length zero." A1: "zero length is GOOD for 50h, 51h and 53h".
+abbrev pub idleAt : Layout → Command → List Check
+idleAt Sixteen k = rule 6 (Cdb 6) (eqb (k .count) 0) Good ∷ []
+idleAt Ten k = rule 6 (Cdb 7) (eqb (k .count) 0) Good ∷ []
+idleAt ByList k = rule 6 (Cdb 7) (eqb (k .list) 0) Good ∷ []
+idleAt NoLayout k = []
+
+abbrev pub idleBy : Works → Layout → Command → List Check
+idleBy OnBlocks l k = idleAt l k
+idleBy OnResult l k = []
+
 abbrev pub idle : Op → Command → List Check
-idle XdWrite k = rule 6 (Cdb 6) (eqb (k .count) 0) Good ∷ []
-idle XpWrite k = rule 6 (Cdb 7) (eqb (k .count) 0) Good ∷ []
-idle XdRead k = []
-idle Rebuild k = rule 6 (Cdb 7) (eqb (k .list) 0) Good ∷ []
-idle Regenerate k = rule 6 (Cdb 7) (eqb (k .list) 0) Good ∷ []
-idle Read k = rule 6 (Cdb 7) (eqb (k .count) 0) Good ∷ []
-idle Write k = rule 6 (Cdb 7) (eqb (k .count) 0) Good ∷ []
-idle XdWriteTen k = rule 6 (Cdb 7) (eqb (k .count) 0) Good ∷ []
-idle XdWriteRead k = rule 6 (Cdb 7) (eqb (k .count) 0) Good ∷ []
-idle Unknown k = []
+idle o k = idleBy (has o .works) (has o .layout) k
 
 -- 7. "List length not 8 + 8*sources, or below 8: 05h/1Ah/00h."
 abbrev pub listLength : Command → List ℕ → List Check
@@ -156,17 +154,14 @@ listHead m g a t s =
 abbrev pub listRules : List ℕ → Geometry → ℕ → Command → List ℕ → List Check
 listRules m g t k s = listLength k s ++ listHead m g (k .came) t s ++ rule 7 (Cdb 2) (eqb (k .count) 0) Good ∷ []
 
+abbrev pub listsBy : Layout → List ℕ → Geometry → ℕ → Command → List ℕ → List Check
+listsBy Sixteen m g t k s = []
+listsBy Ten m g t k s = []
+listsBy ByList m g t k s = listRules m g t k s
+listsBy NoLayout m g t k s = []
+
 abbrev pub lists : Op → List ℕ → Geometry → ℕ → Command → List ℕ → List Check
-lists XdWrite m g t k s = []
-lists XpWrite m g t k s = []
-lists XdRead m g t k s = []
-lists Rebuild m g t k s = listRules m g t k s
-lists Regenerate m g t k s = listRules m g t k s
-lists Read m g t k s = []
-lists Write m g t k s = []
-lists XdWriteTen m g t k s = []
-lists XdWriteRead m g t k s = []
-lists Unknown m g t k s = []
+lists o m g t k s = listsBy (has o .layout) m g t k s
 
 -- "the step works on the command with that length resolved"
 abbrev pub resolved : Geometry → Command → List ℕ → Command
@@ -176,34 +171,34 @@ resolved g k s = resolvedOf (ownOf k s) (g .b)
 abbrev pub inRange : Seen → Geometry → Command → List Check
 inRange w g k = rule 8 w (ltb (g .b) (k .block .0 + k .count)) BadRange ∷ []
 
+abbrev pub rangeAt : Layout → Geometry → Command → List ℕ → List Check
+rangeAt Sixteen g k s = inRange (Cdb 2) g k
+rangeAt Ten g k s = inRange (Cdb 2) g k
+rangeAt ByList g k s = inRange (InList 4) g (resolved g k s)
+rangeAt NoLayout g k s = []
+
 -- "XDREAD without a match or with another length: 05h/24h/00h."
-abbrev pub ranges : Op → List ℕ → Geometry → ℕ → Command → List ℕ → List Check
-ranges XdWrite m g t k s = inRange (Cdb 2) g k
-ranges XpWrite m g t k s = inRange (Cdb 2) g k
-ranges XdRead m g t k s =
+abbrev pub matchRules : List ℕ → Geometry → ℕ → Command → List Check
+matchRules m g t k =
     rule 8 (Cdb 2) (isNothing (newestOf m g t (k .block .0))) BadField
     ∷ rule 8 (Cdb 7) (not (eqb (slotOf m g (index (newestOf m g t (k .block .0))) .len) (k .count))) BadField
     ∷ []
-ranges Rebuild m g t k s = inRange (InList 4) g (resolved g k s)
-ranges Regenerate m g t k s = inRange (InList 4) g (resolved g k s)
-ranges Read m g t k s = inRange (Cdb 2) g k
-ranges Write m g t k s = inRange (Cdb 2) g k
-ranges XdWriteTen m g t k s = inRange (Cdb 2) g k
-ranges XdWriteRead m g t k s = inRange (Cdb 2) g k
-ranges Unknown m g t k s = []
+
+abbrev pub rangesBy : Works → Layout → List ℕ → Geometry → ℕ → Command → List ℕ → List Check
+rangesBy OnBlocks l m g t k s = rangeAt l g k s
+rangesBy OnResult l m g t k s = matchRules m g t k
+
+abbrev pub ranges : Op → List ℕ → Geometry → ℕ → Command → List ℕ → List Check
+ranges o m g t k s = rangesBy (has o .works) (has o .layout) m g t k s
 
 -- 9. "Something to retain and no empty slot: BUSY." A1: "50h always retains", and 53h "takes no slot".
+abbrev pub busyBy : Keeping → List ℕ → Geometry → Command → List Check
+busyBy Always m g k = rule 9 Dash (isNothing (emptySlot m g)) Busy ∷ []
+busyBy WithEleven m g k = rule 9 Dash (eqb (secOf k) 3 && isNothing (emptySlot m g)) Busy ∷ []
+busyBy Never m g k = []
+
 abbrev pub busy : Op → List ℕ → Geometry → Command → List Check
-busy XdWrite m g k = rule 9 Dash (eqb (secOf k) 3 && isNothing (emptySlot m g)) Busy ∷ []
-busy XpWrite m g k = []
-busy XdRead m g k = []
-busy Rebuild m g k = []
-busy Regenerate m g k = rule 9 Dash (isNothing (emptySlot m g)) Busy ∷ []
-busy Read m g k = []
-busy Write m g k = []
-busy XdWriteTen m g k = rule 9 Dash (isNothing (emptySlot m g)) Busy ∷ []
-busy XdWriteRead m g k = []
-busy Unknown m g k = []
+busy o m g k = busyBy (has o .keeps) m g k
 
 -- 10. "Nested: the secondary, or the first source entry in list order that fails decides; for one entry, address, then failed drive,
 -- then range."
@@ -235,33 +230,28 @@ secondRules m g k f =
     ∷ rule 10 (Cdb 11) (not (eqb (secOf k) 3) && ltb (g .b) (k .spot .0 + k .count)) NestedRange
     ∷ []
 
+abbrev pub nestedBy : Layout → List ℕ → Geometry → Command → List ℕ → List Check
+nestedBy Sixteen m g k s = secondRules m g k (secondaryOf m g (k .came) (k .second .0))
+nestedBy Ten m g k s = []
+nestedBy ByList m g k s = sourceRules (firstBad m g (k .came) s (resolved g k s .count) 0 (getD s 0 0))
+nestedBy NoLayout m g k s = []
+
 abbrev pub nested : Op → List ℕ → Geometry → Command → List ℕ → List Check
-nested XdWrite m g k s = secondRules m g k (secondaryOf m g (k .came) (k .second .0))
-nested XpWrite m g k s = []
-nested XdRead m g k s = []
-nested Rebuild m g k s = sourceRules (firstBad m g (k .came) s (resolved g k s .count) 0 (getD s 0 0))
-nested Regenerate m g k s = sourceRules (firstBad m g (k .came) s (resolved g k s .count) 0 (getD s 0 0))
-nested Read m g k s = []
-nested Write m g k s = []
-nested XdWriteTen m g k s = []
-nested XdWriteRead m g k s = []
-nested Unknown m g k s = []
+nested o m g k s = nestedBy (has o .layout) m g k s
 
 -- 11. "Call 5." A1: 53h "puts the XOR in the receive room".
 abbrev pub roomRule : Geometry → Command → ℕ → List Check
 roomRule g k room = rule 11 Dash (ltb room (k .count * g .l)) ShortRoom ∷ []
 
+abbrev pub roomsBy : Moves → Geometry → Command → ℕ → List Check
+roomsBy DataSent g k room = []
+roomsBy ListSent g k room = []
+roomsBy HandedOut g k room = roomRule g k room
+roomsBy Exchanged g k room = roomRule g k room
+roomsBy NoBytes g k room = []
+
 abbrev pub rooms : Op → Geometry → Command → ℕ → List Check
-rooms XdWrite g k room = []
-rooms XpWrite g k room = []
-rooms XdRead g k room = roomRule g k room
-rooms Rebuild g k room = []
-rooms Regenerate g k room = []
-rooms Read g k room = roomRule g k room
-rooms Write g k room = []
-rooms XdWriteTen g k room = []
-rooms XdWriteRead g k room = roomRule g k room
-rooms Unknown g k room = []
+rooms o g k room = roomsBy (has o .moves) g k room
 
 -- what is done where no check applies, and the answer to it
 abbrev pub spanOf : ℕ → Command → Span

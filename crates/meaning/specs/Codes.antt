@@ -8,8 +8,8 @@ use borrow.Author.Tests.{ne-eqb}
 use Rattle.octets.specs.Part.{part}
 use Rattle.drives.specs.declared.Came.{Came}
 use Rattle.command.specs.declared.Op.{Op}
-use Rattle.command.specs.declared.Op.the-variants.{XdWrite, XpWrite, XdRead, Rebuild, Regenerate, Read, Write, XdWriteTen, XdWriteRead, Unknown}
-use Rattle.command.specs.Command.{opOf1994, opOf, tenOf}
+use Rattle.command.specs.declared.Op.the-variants.{XdWrite, XpWrite, XdRead, Rebuild, Regenerate, Read, Write, Unknown}
+use Rattle.command.specs.Command.{Since, Of1994, OfA1, has, opOf1994, opOf, tenOf}
 use Rattle.meaning.specs.Checks.{decideOf}
 
 -- "50h to 53h"
@@ -33,19 +33,11 @@ unknown-then code p = rw (no 0xC0 refl, no 0xC1 refl, no 0xC2 refl, no 0xC3 refl
     no : (x : ℕ) → isPublished x ≡ false → eqb code x ≡ false
     no x q = ne-eqb code x (apart code x p q)
 
-abbrev pub isNew : Op → Bool
-isNew XdWrite = false
-isNew XpWrite = false
-isNew XdRead = false
-isNew Rebuild = false
-isNew Regenerate = false
-isNew Read = false
-isNew Write = false
-isNew XdWriteTen = true
-isNew XdWriteRead = true
-isNew Unknown = false
+abbrev pub isNew : Since → Bool
+isNew Of1994 = false
+isNew OfA1 = true
 
-pub none-new : (code : ℕ) → isNew (opOf1994 code) ≡ false
+pub none-new : (code : ℕ) → isNew (has (opOf1994 code) .since) ≡ false
 none-new code =
     line (eqb code 0xC0) XdWrite _ refl
     (line (eqb code 0xC1) XpWrite _ refl
@@ -56,7 +48,7 @@ none-new code =
     (line (eqb code 0x2A) Write _ refl
     refl))))))
   where
-    line : (t : Bool) (o p : Op) → isNew o ≡ false → isNew p ≡ false → isNew (cond t o p) ≡ false
+    line : (t : Bool) (o p : Op) → isNew (has o .since) ≡ false → isNew (has p .since) ≡ false → isNew (has (cond t o p) .since) ≡ false
     line true o p h k = h
     line false o p h k = k
 

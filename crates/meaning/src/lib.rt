@@ -9,7 +9,7 @@
 //     s  the data-out bytes      r  the receive room                   i  a slot's or a source entry's number
 //     b  a block number          n  how many                           x, y  blocks of a drive
 //     z  an answer               w  where a check saw it               e  a slot's record, or a source
-//     j  what is summed
+//     j  what is summed          (in `drives`, below it, `a` is an address)
 use drives::Came;
 use geometry::Block;
 use sense::Answer;
