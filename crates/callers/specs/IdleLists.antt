@@ -57,7 +57,7 @@ module _ (m : List ℕ) (g : Geometry) (a : Came) (t : ℕ) (h : Target m g a t)
       let k = listedSaying 0xC3 Rebuild a flags count 0 in
       stops m g (h .shelf) a _ [] r 6 (Cdb 7)
       (from-four m g a t h _ [] r Rebuild k (rebuild-says a flags count 0 small (omega arith))
-      ∙ at-six m g a t h 0 (omega arith) r (Cdb 7) Rebuild k (bits then z .not-one then z .not-three then last count w then refl then refl then refl then tt))
+      ∙ at-six m g a t h 0 (omega arith) r (Cdb 7) Rebuild k (bits then z .not-one then z .not-three then last count w then refl then refl then tt) refl refl)
 
   pub regenerate-unlisted : (count : ℕ) → count ≤ g .m → count < 4294967296
       → Does m g a (cdbOf (listedSaying 0xC4 Regenerate anyhow flags count 0)) [] r [] [] (results m g)
@@ -66,7 +66,7 @@ module _ (m : List ℕ) (g : Geometry) (a : Came) (t : ℕ) (h : Target m g a t)
       let k = listedSaying 0xC4 Regenerate a flags count 0 in
       stops m g (h .shelf) a _ [] r 6 (Cdb 7)
       (from-four m g a t h _ [] r Regenerate k (regenerate-says a flags count 0 small (omega arith))
-      ∙ at-six m g a t h 0 (omega arith) r (Cdb 7) Regenerate k (bits then z .not-one then z .not-three then le-ltb (g .m) count most then refl then refl then refl then tt))
+      ∙ at-six m g a t h 0 (omega arith) r (Cdb 7) Regenerate k (bits then z .not-one then z .not-three then le-ltb (g .m) count most then refl then refl then tt) refl refl)
 
   -- ---- length 0, behind a list of so many sources, of which none is the target
 

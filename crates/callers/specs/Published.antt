@@ -1,6 +1,6 @@
 -- XDWRITE(10) and XDWRITEREAD(10), for a caller.
 use Prim.Native.Nat.{_<_, ℕ, _*_, _/_, _%_}
-use mathlib.Core.Path.{_≡_, ap, ap₂}
+use mathlib.Core.Path.{_≡_, refl, ap, ap₂}
 use mathlib.Core.List.{List, [], _∷_}
 use lib.Bits.{bitAnd}
 use lib.ListN.{length}

@@ -29,7 +29,7 @@ use Rattle.command.specs.Length.{resolved-some, resolved-same}
 use Rattle.command.specs.Sent.{sent-exact}
 use Rattle.meaning.specs.declared.Span.{Span}
 use Rattle.meaning.specs.declared.Act.{Act}
-use Rattle.meaning.specs.declared.Act.the-variants.{Read as ToRead, Write as ToWrite, XpWrite as ToXpWrite, XdRead as ToXdRead, Couple, Retain, Rebuild as ToRebuild, Regenerate as ToRegenerate, XdWriteRead as ToXdWriteRead}
+use Rattle.meaning.specs.declared.Act.the-variants.{Couple, Retain}
 use Rattle.meaning.specs.declared.Seen.{Seen}
 use Rattle.meaning.specs.declared.Fault.the-variants.{Clear}
 use Rattle.meaning.specs.declared.Decision.the-variants.{Stop, Go}
@@ -38,18 +38,6 @@ use Rattle.meaning.specs.Checks.{isNothing, isUnknown, limits, ownSecond, idleA
 use Rattle.meaning.specs.Allowed.{Blocks, Held, Free, empty-free, Sourced, Allowed}
 use Rattle.grants.specs.Passed.{not-zero, with-it, without-it, found, elsewhere, clear, Passed, sixteen-fields, ten-limit, list-limit, ListRead, list-read}
 use Rattle.grants.specs.Entries.{entries}
-
--- the drive that an act works on
-abbrev pub worksOn : Act → ℕ
-worksOn (ToRead x) = x .drive
-worksOn (ToWrite x) = x .drive
-worksOn (ToXpWrite x) = x .drive
-worksOn (ToXdRead x i) = x .drive
-worksOn (Couple x y mirror) = x .drive
-worksOn (Retain x i mirror ndisc) = x .drive
-worksOn (ToRebuild x j) = x .drive
-worksOn (ToRegenerate x j i) = x .drive
-worksOn (ToXdWriteRead x disable) = x .drive
 
 pub no-stop : (n : ℕ) (w : Seen) (z : Answer) (x : Act) (y : Answer) → Stop n w z ≡ Go x y → ⊥
 no-stop n w z x y e = let q : _≡_ {A = ℕ} 0 1 = cc in omega arith
@@ -61,11 +49,10 @@ held-at m g v x i e l =
     let u = newest-used m g (x .drive) (x .block .0) (v .slots-ok) i n in
     record { answers = e; slot-in = n .inside; same-len = l; limited = omega (arith, u .len-high) }
 
--- where the checks from 4 on pass the operation does something, and that is granted, on drive t
+-- where the checks from 4 on pass the operation does something, and that is granted
 pub record Grants (o : Op) (m : List ℕ) (g : Geometry) (t : ℕ) (k : Command) (s : List ℕ) (r : ℕ) : Type 0 where
   pub act : Act
   pub goes : acts o m g t k s ≡ Go act Good
-  pub drive : worksOn act ≡ t
   pub allowed : Allowed m g s r act
 
 module _ (m : List ℕ) (g : Geometry) (t : ℕ) (s : List ℕ) (r : ℕ) (v : Shelf m g) (inside : t < g .d) (up : failed m g t ≡ false) (k : Command) where
@@ -81,21 +68,21 @@ module _ (m : List ℕ) (g : Geometry) (t : ℕ) (s : List ℕ) (r : ℕ) (v : S
   named i w = own k (not-zero _ (i .0)) (ltb-false _ _ (w .0))
 
   -- the act x
-  does : (o : Op) (x : Act) → acts o m g t k s ≡ Go x Good → worksOn x ≡ t → Allowed m g s r x → Grants o m g t k s r
-  does o x e d h = record { act = x; goes = e; drive = d; allowed = h }
+  does : (o : Op) (x : Act) → acts o m g t k s ≡ Go x Good → Allowed m g s r x → Grants o m g t k s r
+  does o x e h = record { act = x; goes = e; allowed = h }
 
   of-read : Passed Read m g t k s r → Grants Read m g t k s r
-  of-read p = does Read _ refl refl (named (p .idle-pass) (p .range-pass), ltb-false _ _ (p .room-pass .0))
+  of-read p = does Read _ refl (named (p .idle-pass) (p .range-pass), ltb-false _ _ (p .room-pass .0))
 
   of-write : Passed Write m g t k s r → Grants Write m g t k s r
-  of-write p = does Write _ refl refl (named (p .idle-pass) (p .range-pass), p .sent)
+  of-write p = does Write _ refl (named (p .idle-pass) (p .range-pass), p .sent)
 
   of-xpwrite : Passed XpWrite m g t k s r → Grants XpWrite m g t k s r
-  of-xpwrite p = does XpWrite _ refl refl (named (p .idle-pass) (p .range-pass), p .sent)
+  of-xpwrite p = does XpWrite _ refl (named (p .idle-pass) (p .range-pass), p .sent)
 
   of-xdread : Passed XdRead m g t k s r → Grants XdRead m g t k s r
   of-xdread p =
-      does XdRead _ refl refl
+      does XdRead _ refl
       (held-at m g v (spanOf t k) _ (found (newestOf m g t (k .block .0)) (p .range-pass .0)) (eqb-true _ _ (not-false _ (p .range-pass .1 .0))), ltb-false _ _ (p .room-pass .0))
 
   -- with Sec Ctl 11, and without
@@ -107,14 +94,14 @@ module _ (m : List ℕ) (g : Geometry) (t : ℕ) (s : List ℕ) (r : ℕ) (v : S
 
       pick : (b : Bool) → eqb (secOf k) 3 ≡ b → Grants XdWrite m g t k s r
       pick true q =
-          does XdWrite (Retain (spanOf t k) (index (emptySlot m g)) (mirrorOf k) (ndiscOf k)) (rw q) refl
+          does XdWrite (Retain (spanOf t k) (index (emptySlot m g)) (mirrorOf k) (ndiscOf k)) (rw q)
           (named (p .idle-pass) (p .range-pass), p .sent, ltb-false _ _ (f .0 .0), free (with-it (eqb (secOf k) 3) _ q (p .busy-pass .0)))
       pick false q =
           let unless : (z : Bool) → (not (eqb (secOf k) 3) && z) ≡ false → z ≡ false = (λ z h. without-it (eqb (secOf k) 3) z q h) in
           let there-is = found (secondaryOf m g (k .came) (k .second .0)) (unless _ (p .nested-pass .0)) in
           let there : Range g (index (secondaryOf m g (k .came) (k .second .0))) (k .spot .0) (k .count) =
           record { drive-in = drive-inside m g _ _ there-is .0; range-in = ltb-false _ _ (unless _ (p .nested-pass .1 .1 .0)) } in
-          does XdWrite (Couple (spanOf t k) (secondOf (secondaryOf m g (k .came) (k .second .0)) k) (mirrorOf k)) (rw q) refl (
+          does XdWrite (Couple (spanOf t k) (secondOf (secondaryOf m g (k .came) (k .second .0)) k) (mirrorOf k)) (rw q) (
             named (p .idle-pass) (p .range-pass),
             record { range = there; present = unless _ (p .nested-pass .1 .0); some = not-zero _ (p .idle-pass .0) },
             refl,
@@ -124,11 +111,11 @@ module _ (m : List ℕ) (g : Geometry) (t : ℕ) (s : List ℕ) (r : ℕ) (v : S
 
   of-xdwrite-ten : Passed XdWriteTen m g t k s r → Grants XdWriteTen m g t k s r
   of-xdwrite-ten p =
-      does XdWriteTen _ refl refl
+      does XdWriteTen _ refl
       (named (p .idle-pass) (p .range-pass), p .sent, ltb-false _ _ (ten-limit UpToM XdWriteTen m g t k (p .fields-pass) .0), free (p .busy-pass .0))
 
   of-xdwriteread : Passed XdWriteRead m g t k s r → Grants XdWriteRead m g t k s r
-  of-xdwriteread p = does XdWriteRead _ refl refl (named (p .idle-pass) (p .range-pass), p .sent, ltb-false _ _ (p .room-pass .0))
+  of-xdwriteread p = does XdWriteRead _ refl (named (p .idle-pass) (p .range-pass), p .sent, ltb-false _ _ (p .room-pass .0))
 
   -- the list and what follows it
   sourced : length s ≡ listBytes k (g .l) → eqb (k .list) 0 ≡ false → ListRead m g t k s → firstBad m g (k .came) s (resolved g k s .count) 0 (getD s 0 0) ≡ Clear
@@ -151,7 +138,7 @@ module _ (m : List ℕ) (g : Geometry) (t : ℕ) (s : List ℕ) (r : ℕ) (v : S
   of-rebuild p =
       let l = list-read m g t k s (p .list-pass) in
       let ends = list-limit NotToEnd Rebuild m g t k (p .fields-pass) in
-      does Rebuild _ refl refl (
+      does Rebuild _ refl (
         listed (l .some-block) (ltb-false _ _ (p .range-pass .0)),
         sourced (p .sent) (p .idle-pass .0) l (clear _ (p .nested-pass .0))
             (λ h. resolved-same (k .count) (be 4 s 4) (g .b) (eqb-false _ _ (without-it (eqb (intOf k) 0) _ h (ends .0)))),
@@ -164,7 +151,7 @@ module _ (m : List ℕ) (g : Geometry) (t : ℕ) (s : List ℕ) (r : ℕ) (v : S
       let low : k .count ≤ g .m = ltb-false _ _ (list-limit UpToM Regenerate m g t k (p .fields-pass) .0) in
       let small : g .m ≤ 256 = shelf-frame m g v .placed .ranges .m-high in
       let same : resolvedCount (k .count) (be 4 s 4) (g .b) ≡ k .count = resolved-same (k .count) (be 4 s 4) (g .b) (λ h. omega arith) in
-      does Regenerate _ refl refl (
+      does Regenerate _ refl (
         listed (l .some-block) (ltb-false _ _ (p .range-pass .0)),
         sourced (p .sent) (p .idle-pass .0) l (clear _ (p .nested-pass .0)) (λ h. same),
         omega (arith, same),

@@ -1,7 +1,7 @@
 -- Checks first, then the effect: a decision to go grants everything that the code that acts needs.
 use Prim.Native.Nat.{ℕ}
 use mathlib.Core.List.{List}
-use mathlib.Core.Path.{_≡_, sym, ap, subst, _∙_}
+use mathlib.Core.Path.{_≡_, sym, subst, _∙_}
 use lib.ListN.{getD}
 use borrow.Author.Tests.{not-false}
 use Rattle.folds.specs.declared.Found.the-variants.{At}
@@ -22,13 +22,12 @@ use Rattle.meaning.specs.declared.Decision.the-variants.{Stop, Go}
 use Rattle.meaning.specs.Checks.{checks, carriedOut, decideFor, decideOf}
 use Rattle.meaning.specs.Allowed.{Allowed}
 use Rattle.grants.specs.Passed.{found, Through, through}
-use Rattle.grants.specs.Each.{worksOn, no-stop, Grants, of-each}
+use Rattle.grants.specs.Each.{no-stop, Grants, of-each}
 
 -- what a decision to do x and answer y says: image m, a command that came as a, data-out bytes s, r bytes of receive room
 pub record Granted (m : List ℕ) (a : Came) (s : List ℕ) (r : ℕ) (x : Act) (y : Answer) : Type 0 where
   pub good : y ≡ Good
   pub valid : Shelf m (geometryOf m)
-  pub target : targetOf m (geometryOf m) a ≡ At (worksOn x)
   pub allowed : Allowed m (geometryOf m) s r x
 
 -- no check applies
@@ -61,7 +60,6 @@ granted-by o m a c s r x y e =
     record {
       good = sym good;
       valid = by-valid o m a c s r (w .0);
-      target = by-target o m a c s r (w .0) ∙ ap At (sym (h .drive) ∙ ap worksOn same);
       allowed = subst (Allowed m (geometryOf m) s r) same (h .allowed);
     }
 
