@@ -18,7 +18,7 @@ use Rattle.slots.specs.Slots.{usedCount}
 use Rattle.slots.specs.Change.{entry}
 use Rattle.command.specs.Command.{sourceOf}
 use Rattle.meaning.specs.declared.Span.{Span}
-use Rattle.meaning.specs.declared.Sum.{Sum}
+use Rattle.meaning.specs.declared.Summing.{Summing}
 use Rattle.meaning.specs.declared.Act.the-variants.{Rebuild, Regenerate}
 use Rattle.meaning.specs.Acts.{spanAt, homeOf, startOf, gathered, leaves}
 use Rattle.meaning.specs.Allowed.{Blocks, Sourced, Limited, Free}
@@ -26,7 +26,7 @@ use Rattle.meaning.specs.Lengths.{span-after-media, span-in, home-is, home-rang
 use Rattle.gather.specs.declared.Job.{Job}
 use Rattle.gather.specs.Job.{summed, Named, Listed, Ready}
 
-module _ (s : List ℕ) (g : Geometry) (x : Span) (j : Sum) (sent : List ℕ) (frame : Framed s g) (b : Blocks s g x) (h : Sourced s g x j sent) (n : ℕ)
+module _ (s : List ℕ) (g : Geometry) (x : Span) (j : Summing) (sent : List ℕ) (frame : Framed s g) (b : Blocks s g x) (h : Sourced s g x j sent) (n : ℕ)
     (e : n ≡ getD sent 0 0) (few : n < 256) where
   -- ---- the sources
 

@@ -3,7 +3,7 @@ use gather::Job;
 use geometry::Geometry;
 use geometry::RECORD;
 use meaning::Span;
-use meaning::Sum;
+use meaning::Summing;
 ghost use mathlib.Core.Path.{_≡_};
 ghost use Rattle.geometry.specs.Frame.{Framed};
 ghost use Rattle.meaning.specs.declared.Act.the-variants.{Rebuild, Regenerate};
@@ -11,7 +11,7 @@ ghost use Rattle.meaning.specs.Acts.{leaves};
 ghost use Rattle.meaning.specs.Allowed.{Allowed};
 
 // REBUILD: the XOR of the sources goes to the blocks of x.
-pub fn rebuild(image: &mut [u8], g: Geometry, x: Span, j: Sum, sent: &[u8])
+pub fn rebuild(image: &mut [u8], g: Geometry, x: Span, j: Summing, sent: &[u8])
     requires { ⌜ Framed (now image) g × Allowed (now image) g (now sent) 0 (Rebuild x j) ⌝ }
     ensures { λ _. ⌜ now (image .exit) ≡ leaves (now (image .entry)) g (now (sent .entry)) (Rebuild x j) ⌝ }
 {
@@ -29,7 +29,7 @@ pub fn rebuild(image: &mut [u8], g: Geometry, x: Span, j: Sum, sent: &[u8])
 }
 
 // REGENERATE: the XOR of the sources and of the blocks of x goes to slot i.
-pub fn regenerate(image: &mut [u8], g: Geometry, x: Span, j: Sum, i: usize, sent: &[u8])
+pub fn regenerate(image: &mut [u8], g: Geometry, x: Span, j: Summing, i: usize, sent: &[u8])
     requires { ⌜ Framed (now image) g × Allowed (now image) g (now sent) 0 (Regenerate x j i) ⌝ }
     ensures { λ _. ⌜ now (image .exit) ≡ leaves (now (image .entry)) g (now (sent .entry)) (Regenerate x j i) ⌝ }
 {

@@ -18,14 +18,14 @@ use Rattle.image.specs.Shelf.{Shelf, shelf-frame}
 use Rattle.sense.specs.declared.Answer.the-variants.{Good}
 use Rattle.sense.specs.Sense.{outcomeOf}
 use Rattle.meaning.specs.declared.Span.{Span}
-use Rattle.meaning.specs.declared.Sum.{Sum}
+use Rattle.meaning.specs.declared.Summing.{Summing}
 use Rattle.meaning.specs.Acts.{Over}
 use Rattle.meaning.specs.Step.{stepOutcome, stepRoom, stepImage}
 pub use Rattle.demands_one_two.specs.Effects.{resultIn}
 use Rattle.callers.specs.After.{After}
 
 -- what is summed by a command that came as a, with Int Data or not
-abbrev pub summing : Came → ℕ → Sum
+abbrev pub summing : Came → ℕ → Summing
 summing a int = record { int = int; came = a }
 
 -- n blocks of drive t from block b on

@@ -11,7 +11,7 @@ use Rattle.sense.specs.declared.Answer.the-variants.{Good, Busy, BadList}
 use Rattle.command.specs.declared.Command.{Command}
 use Rattle.command.specs.Command.{listSecOf, ownOf, resolvedOf, listBytes}
 use Rattle.meaning.specs.declared.Span.{Span}
-use Rattle.meaning.specs.declared.Sum.{Sum}
+use Rattle.meaning.specs.declared.Summing.{Summing}
 use Rattle.meaning.specs.declared.Act.the-variants.{Rebuild, Regenerate}
 use Rattle.meaning.specs.declared.Seen.the-variants.{Dash, Cdb, Entry}
 use Rattle.meaning.specs.declared.Decision.the-variants.{Stop, Go}
@@ -40,7 +40,7 @@ module _ (m : List ℕ) (g : Geometry) (t : ℕ) (k : Command) (s : List ℕ) wh
   module _ (n : ℕ) where
     -- ---- what a search has found
 
-    module _ (x : Span) (j : Sum) (h : x ≡ spanOf t k) (q : j ≡ sumOf k) where
+    module _ (x : Span) (j : Summing) (h : x ≡ spanOf t k) (q : j ≡ sumOf k) where
       pub placed-rebuild : (keep : Bool) → k .block .0 + k .count ≤ g .b → keep ≡ false
           → faultOr (firstBad m g (k .came) s (k .count) 0 n) (Go (Rebuild x j) Good) ≡ placedOf keep n m g t k s
       unfolding placedOf rebuiltOf

@@ -7,7 +7,7 @@ use meaning::Act;
 use meaning::Decision;
 use meaning::Fault;
 use meaning::Seen;
-use meaning::Sum;
+use meaning::Summing;
 use sense::Answer;
 ghost use mathlib.Core.Path.{_≡_};
 ghost use Prim.Native.Nat.{_+_, _*_, _<_, _≤_};
@@ -47,11 +47,11 @@ pub fn placed(
 }
 
 // What is summed besides the list.
-fn sum_of(k: Command) -> Sum
+fn sum_of(k: Command) -> Summing
     ensures { λ r. ⌜ r ≡ sumOf k ⌝ }
 {
     let came = k.came;
-    Sum {
+    Summing {
         int: k.int(),
         came: came,
     }

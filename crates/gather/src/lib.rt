@@ -4,7 +4,7 @@ mod operands;
 mod sources;
 
 use geometry::Geometry;
-use meaning::Sum;
+use meaning::Summing;
 ghost use mathlib.Core.Path.{_≡_};
 ghost use Prim.Native.Nat.{_+_, _<_, _≤_};
 ghost use lib.ListN.{length};
@@ -20,7 +20,7 @@ pub struct Job {
     pub to: usize,
     pub count: usize,
     pub sources: usize,
-    pub sum: Sum,
+    pub sum: Summing,
 }
 
 // The XOR goes to its place. A list has at most 255 entries. The two arrays live here.

@@ -21,7 +21,7 @@ use Rattle.slots.specs.Change.{entry, goes}
 use Rattle.command.specs.declared.Source.{Source}
 use Rattle.command.specs.Command.{sourceOf}
 use Rattle.meaning.specs.declared.Span.{Span}
-use Rattle.meaning.specs.declared.Sum.{Sum}
+use Rattle.meaning.specs.declared.Summing.{Summing}
 use Rattle.meaning.specs.declared.Act.{Act}
 use Rattle.meaning.specs.declared.Act.the-variants.{Read, Write, XpWrite, XdRead, Couple, Retain, Rebuild, Regenerate, XdWriteRead}
 
@@ -124,7 +124,7 @@ abbrev pub intData : Geometry → List ℕ → ℕ → ℕ → ℕ → List (Lis
 intData g s count n int = cond (eqb int 0) [] (part s (8 + 8 * n) (count * g .l) ∷ [])
 
 -- "List: byte 0 number of sources": the XOR of the sources and the intermediate data
-unfoldable pub gathered : List ℕ → Geometry → List ℕ → ℕ → Sum → List ℕ
+unfoldable pub gathered : List ℕ → Geometry → List ℕ → ℕ → Summing → List ℕ
 gathered m g s count j = xorAll (sourcesFrom m g (j .came) s count 0 (getD s 0 0) ++ intData g s count (getD s 0 0) (j .int))
 
 -- ---- every command

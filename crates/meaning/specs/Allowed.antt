@@ -16,7 +16,7 @@ use Rattle.slots.specs.Facts.{empty-inside}
 use Rattle.command.specs.declared.Source.{Source}
 use Rattle.command.specs.Command.{sourceOf}
 use Rattle.meaning.specs.declared.Span.{Span}
-use Rattle.meaning.specs.declared.Sum.{Sum}
+use Rattle.meaning.specs.declared.Summing.{Summing}
 use Rattle.meaning.specs.declared.Act.{Act}
 use Rattle.meaning.specs.declared.Act.the-variants.{Read, Write, XpWrite, XdRead, Couple, Retain, Rebuild, Regenerate, XdWriteRead}
 
@@ -61,7 +61,7 @@ pub record NamesOther (m : List ℕ) (g : Geometry) (a : Came) (x : Span) (e : S
   pub present : failed m g drive ≡ false
   pub other : drive ≡ x .drive → ⊥
 
-pub record Sourced (m : List ℕ) (g : Geometry) (x : Span) (j : Sum) (s : List ℕ) : Type 0 where
+pub record Sourced (m : List ℕ) (g : Geometry) (x : Span) (j : Summing) (s : List ℕ) : Type 0 where
   pub some-source : 1 ≤ getD s 0 0
   pub exact : length s ≡ 8 + 8 * getD s 0 0 + cond (eqb (j .int) 0) 0 (x .count * g .l)
   pub each : (i : ℕ) → i < getD s 0 0 → NamesOther m g (j .came) x (sourceOf s i)

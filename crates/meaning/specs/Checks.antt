@@ -26,7 +26,7 @@ use Rattle.command.specs.declared.Op.the-variants.{XdWrite, XpWrite, XdRead, Re
 use Rattle.command.specs.declared.Command.{Command}
 use Rattle.command.specs.Command.{Layout, Sixteen, Ten, ByList, NoLayout, Limit, UpToM, NotToEnd, NoLimit, Moves, DataSent, ListSent, HandedOut, Exchanged, NoBytes, Works, OnBlocks, OnResult, Keeping, Always, WithEleven, Never, has, opOf, sizeOf, zeroBits, commandOf, mirrorOf, ndiscOf, secOf, intOf, listSecOf, disableOf, ownOf, resolvedOf, listBytes}
 use Rattle.meaning.specs.declared.Span.{Span}
-use Rattle.meaning.specs.declared.Sum.{Sum}
+use Rattle.meaning.specs.declared.Summing.{Summing}
 use Rattle.meaning.specs.declared.Act.the-variants.{Read as ToRead, Write as ToWrite, XpWrite as ToXpWrite, XdRead as ToXdRead, Couple, Retain, Rebuild as ToRebuild, Regenerate as ToRegenerate, XdWriteRead as ToXdWriteRead}
 use Rattle.meaning.specs.declared.Seen.{Seen}
 use Rattle.meaning.specs.declared.Seen.the-variants.{Dash, Cdb, List as InList, Drive, Entry, EntryDrive}
@@ -260,7 +260,7 @@ spanOf t k = record { drive = t; block = k .block; count = k .count }
 abbrev pub secondOf : Found → Command → Span
 secondOf f k = record { drive = index f; block = k .spot; count = k .count }
 
-abbrev pub sumOf : Command → Sum
+abbrev pub sumOf : Command → Summing
 sumOf k = record { int = intOf k; came = k .came }
 
 abbrev pub acts : Op → List ℕ → Geometry → ℕ → Command → List ℕ → Decision

@@ -18,7 +18,7 @@ use Rattle.drives.specs.declared.Came.{Came}
 use Rattle.command.specs.declared.Source.{Source}
 use Rattle.command.specs.Command.{sourceOf}
 use Rattle.meaning.specs.declared.Span.{Span}
-use Rattle.meaning.specs.declared.Sum.{Sum}
+use Rattle.meaning.specs.declared.Summing.{Summing}
 use Rattle.meaning.specs.Acts.{spanAt, blocksOf, mixed, resultOf, laid, homeOf, startOf, sourceBlocks, sourcesFrom, intData, gathered}
 use Rattle.meaning.specs.Allowed.{Blocks, NamesOther, Sourced}
 
@@ -75,7 +75,7 @@ module _ (s : List ℕ) (g : Geometry) (a : Came) (sent : List ℕ) (count : ℕ
       length-xorAll-some (count * g .l) (xs ++ ys) (omega (arith, length-append xs ys, length-sources 0 n))
       (each-append (λ (x : List ℕ). length x ≡ count * g .l) xs ys (long-sources 0 n (λ e l. each e (omega arith))) (long-int (8 + 8 * n) (eqb int 0) exact))
 
-pub gathered-long : (s : List ℕ) (g : Geometry) (sent : List ℕ) (count : ℕ) (j : Sum) → 1 ≤ getD sent 0 0
+pub gathered-long : (s : List ℕ) (g : Geometry) (sent : List ℕ) (count : ℕ) (j : Summing) → 1 ≤ getD sent 0 0
     → ((e : ℕ) → e < getD sent 0 0 → length (sourceBlocks s g (j .came) sent count e) ≡ count * g .l)
     → (eqb (j .int) 0 ≡ false → length sent ≡ 8 + 8 * getD sent 0 0 + count * g .l) → length (gathered s g sent count j) ≡ count * g .l
 unfolding gathered
@@ -92,7 +92,7 @@ module _ (s : List ℕ) (g : Geometry) (a : Came) (x : Span) (e : Source) (o : N
   pub source-in : Framed s g → startOf s g a e + x .count * g .l ≤ length s
   source-in f = range-room s g (homeOf s g a e) (e .block .0) (x .count) f home-range
 
-module _ (s : List ℕ) (g : Geometry) (x : Span) (j : Sum) (sent : List ℕ) (f : Framed s g) (h : Sourced s g x j sent) where
+module _ (s : List ℕ) (g : Geometry) (x : Span) (j : Summing) (sent : List ℕ) (f : Framed s g) (h : Sourced s g x j sent) where
   length-source : (i : ℕ) → i < getD sent 0 0 → length (sourceBlocks s g (j .came) sent (x .count) i) ≡ x .count * g .l
   length-source i l =
       let e = sourceOf sent i in

@@ -22,7 +22,7 @@ pub struct Span {
 }
 
 // What is summed besides the list: Int Data, and how the command came, by which sources are looked up.
-pub struct Sum {
+pub struct Summing {
     pub int: usize,
     pub came: Came,
 }
@@ -39,9 +39,9 @@ pub enum Act {
     // the data's blocks, the slot that takes the result, Mirror, NDisc or DISABLE WRITE
     Retain(Span, usize, usize, usize),
     // the target's blocks, what is summed
-    Rebuild(Span, Sum),
+    Rebuild(Span, Summing),
     // the same, and the slot that takes the result
-    Regenerate(Span, Sum, usize),
+    Regenerate(Span, Summing, usize),
     // the data's blocks, DISABLE WRITE
     XdWriteRead(Span, usize),
 }
