@@ -1,17 +1,15 @@
 -- What lies where, and what comes and goes: today's definitions are 01's, over a header in place of a geometry.
-use Prim.Native.Nat.{ℕ, zero, suc, _+_, _-_}
+use Prim.Native.Nat.{ℕ, zero, suc, _+_}
 use mathlib.Core.Bool.{Bool, true, false, cond}
 use mathlib.Core.List.{List, [], _∷_, _++_}
-use mathlib.Core.Path.{_≡_, refl, sym, ap, _∙_}
+use mathlib.Core.Path.{_≡_, refl, ap, _∙_}
 use lib.Dec.{ltb, eqb}
-use Rattle.octets.specs.Put.{put}
 use Rattle.octets.specs.Operands.{xorAll}
 use Rattle.folds.specs.declared.Found.the-variants.{At}
 use Rattle.folds.specs.Every.{every}
 use Rattle.geometry.specs.declared.Geometry.{Geometry}
 use Rattle.geometry.specs.Header.{slotAt, place}
 use Rattle.drives.specs.Table.{driveOf}
-use Rattle.slots.specs.declared.Slot.{Slot}
 use Rattle.slots.specs.declared.Best.{Best}
 use Rattle.slots.specs.Record.{slotOf}
 use Rattle.slots.specs.Slots.{usedCount}

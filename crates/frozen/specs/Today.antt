@@ -17,7 +17,7 @@ use Rattle.geometry.specs.Header.{geometryOf, slotAt, place}
 use Rattle.drives.specs.Table.{driveOf, marked}
 use Rattle.slots.specs.Record.{slotOf}
 use Rattle.slots.specs.Record as slots
-use Rattle.slots.specs.Find.{emptySlot, newestOf}
+use Rattle.slots.specs.Find.{emptySlot}
 use Rattle.sense.specs.declared.Answer.{Answer}
 use Rattle.sense.specs.declared.Answer.the-variants.{Good, WrongCount}
 use Rattle.sense.specs.declared.Outcome.{Outcome}
@@ -41,7 +41,7 @@ use Rattle.frozen.specs.Results as then
 use Rattle.frozen.specs.Answers as told
 use Rattle.frozen.specs.Commands as was
 use Rattle.frozen.specs.Step as signed
-use Rattle.frozen.specs.Alike.{geo, released-alike, dropped-alike, newest-alike, gathered-alike}
+use Rattle.frozen.specs.Alike.{released-alike, dropped-alike, newest-alike, gathered-alike}
 use Rattle.frozen.specs.Judged.{valid-alike}
 use Rattle.frozen.specs.Lists.{bytesOf, forget, first-forget, first-view, byFault, sources-alike}
 
