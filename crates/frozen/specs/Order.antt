@@ -17,7 +17,7 @@ use Rattle.slots.specs.Change.{entry}
 use Rattle.image.specs.Shelf.{Shelf, shelf-frame}
 use Rattle.meaning.specs.declared.Span.{Span}
 use Rattle.meaning.specs.declared.Act.the-variants.{Couple, Retain}
-use Rattle.meaning.specs.Acts.{spanAt, over, resultOf, passedOn, dataOver, effectOf, leaves}
+use Rattle.meaning.specs.Acts.{spanAt, over, resultOf, passedOn, dataOver, leaves}
 use Rattle.meaning.specs.Allowed.{Allowed}
 use Rattle.demands_one_two.specs.Effects.{written, blocks-first}
 use Rattle.demands_one_two.specs.Fine.{fine}

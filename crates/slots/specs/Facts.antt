@@ -47,7 +47,7 @@ module _ (g : Geometry) (k : ℕ) (new : Bool) (r : Slot) where
         holds _ 2 e,
       )
 
-  pub used-ok : isUsed r ≡ true → Used g k r → new ≡ true → slotOk g k new r ≡ true
+  used-ok : isUsed r ≡ true → Used g k r → new ≡ true → slotOk g k new r ≡ true
   used-ok u h n =
       rw u
       (every-of (testsOf (usedMusts g k new zeroSlot r)) (
@@ -85,7 +85,7 @@ module _ (g : Geometry) (k : ℕ) (new : Bool) (r : Slot) where
       let z5 : r .last ≡ 0 = eqb-true _ _ (holds _ 4 e) in
       rw (z0, z1, z2, z3, z4, z5)
 
-  pub zero-ok : r ≡ zeroSlot → slotOk g k new r ≡ true
+  zero-ok : r ≡ zeroSlot → slotOk g k new r ≡ true
   unfolding every
   zero-ok e = rw e
 
