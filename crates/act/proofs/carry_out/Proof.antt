@@ -133,44 +133,10 @@ returns-9 c =
 
 pub carry-out-spec : {M : Type 1} → statement M
 carry-out-spec =
-    tie.close
-    (tie.spec
-    (λ c. search needs)
-    read-requires
-    (λ c. search needs)
-    write-requires
-    (λ c. search needs)
-    xpwrite-requires
-    (λ c. search needs)
-    xdread-requires
-    (λ c. search needs)
-    couple-requires
-    (λ c. search needs)
-    retain-requires
-    (λ c. search needs)
-    rebuild-requires
-    (λ c. search needs)
-    regenerate-requires
-    (λ c. search needs)
-    xdwriteread-requires
-    (λ c. search needs)
-    (λ c. search needs)
-    returns
-    (λ c. search needs)
-    returns-2
-    (λ c. search needs)
-    returns-3
-    (λ c. search needs)
-    (λ c. search needs)
-    returns-4
-    (λ c. search needs)
-    returns-5
-    (λ c. search needs)
-    returns-6
-    (λ c. search needs)
-    returns-7
-    (λ c. search needs)
-    returns-8
-    (λ c. search needs)
-    (λ c. search needs)
-    returns-9)
+    tie.close (tie.spec (λ c. search needs) read-requires (λ c. search needs) write-requires (λ c. search needs)
+    xpwrite-requires (λ c. search needs) xdread-requires (λ c. search needs) couple-requires (λ c. search needs)
+    retain-requires (λ c. search needs) rebuild-requires (λ c. search needs) regenerate-requires (λ c. search needs)
+    xdwriteread-requires (λ c. search needs) (λ c. search needs) returns (λ c. search needs) returns-2
+    (λ c. search needs) returns-3 (λ c. search needs) (λ c. search needs) returns-4 (λ c. search needs) returns-5
+    (λ c. search needs) returns-6 (λ c. search needs) returns-7 (λ c. search needs) returns-8 (λ c. search needs)
+    (λ c. search needs) returns-9)

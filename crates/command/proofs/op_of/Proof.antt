@@ -26,5 +26,4 @@ returns-5 c = search tests
 
 pub op-of-spec : {M : Type 1} → statement M
 op-of-spec =
-    tie.close
-    (tie.spec returns returns-2 returns-3 returns-4 (λ c κs. tt) returns-5)
+    tie.close (tie.spec returns returns-2 returns-3 returns-4 (λ c κs. tt) returns-5)

@@ -29,5 +29,4 @@ returns-8 c = search tests
 
 pub op-of-1994-spec : {M : Type 1} → statement M
 op-of-1994-spec =
-    tie.close
-    (tie.spec returns returns-2 returns-3 returns-4 returns-5 returns-6 returns-7 returns-8)
+    tie.close (tie.spec returns returns-2 returns-3 returns-4 returns-5 returns-6 returns-7 returns-8)

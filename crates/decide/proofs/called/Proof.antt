@@ -40,13 +40,5 @@ returns-3 c =
 
 pub called-spec : {M : Type 1} → statement M
 called-spec =
-    tie.close
-    (tie.spec
-    (λ c κs. search needs)
-    returns
-    read-requires
-    find-target-requires
-    (λ c. search needs)
-    (λ c. search needs)
-    returns-2
-    returns-3)
+    tie.close (tie.spec (λ c κs. search needs) returns read-requires find-target-requires (λ c. search needs)
+    (λ c. search needs) returns-2 returns-3)

@@ -27,11 +27,4 @@ returns-3 c = search (tests, c .before .enum-told2 .given .1)
 
 pub roomy-spec : {M : Type 1} → statement M
 roomy-spec =
-    tie.close
-    (tie.spec
-    mul-due
-    (λ c. search needs)
-    returns
-    (λ c. search needs)
-    returns-2
-    returns-3)
+    tie.close (tie.spec mul-due (λ c. search needs) returns (λ c. search needs) returns-2 returns-3)

@@ -11,9 +11,4 @@ returns-2 c = rw (c .enum-told .given .1)
 
 pub settle-spec : {M : Type 1} → statement M
 settle-spec =
-    tie.close
-    (tie.spec
-    (λ c. search needs)
-    returns
-    (λ c. search needs)
-    returns-2)
+    tie.close (tie.spec (λ c. search needs) returns (λ c. search needs) returns-2)

@@ -43,15 +43,5 @@ returns-7 c = search (tests, c .before .before .before .before .before .if2 .lef
 
 pub limited-spec : {M : Type 1} → statement M
 limited-spec =
-    tie.close
-    (tie.spec
-    mul-due
-    returns
-    returns-2
-    returns-3
-    returns-4
-    returns-5
-    (λ c. search needs)
-    returns-6
-    (λ c κs. search needs)
-    returns-7)
+    tie.close (tie.spec mul-due returns returns-2 returns-3 returns-4 returns-5 (λ c. search needs) returns-6
+    (λ c κs. search needs) returns-7)

@@ -59,15 +59,5 @@ returns-4 c =
 
 pub xdwrite-spec : {M : Type 1} → statement M
 xdwrite-spec =
-    tie.close
-    (tie.spec
-    (λ c κs. search needs)
-    (λ c κs. search needs)
-    returns
-    limited-requires
-    returns-2
-    returns-3
-    (λ c κs. search needs)
-    (λ c κs. search needs)
-    limited-requires-2
-    returns-4)
+    tie.close (tie.spec (λ c κs. search needs) (λ c κs. search needs) returns limited-requires returns-2 returns-3
+    (λ c κs. search needs) (λ c κs. search needs) limited-requires-2 returns-4)

@@ -14,8 +14,7 @@ returns c =
 
 pub address-spec : {M : Type 1} → statement M
 address-spec =
-    tie.close
-    (tie.spec (λ c κs. (c .before .pre .0 .placed, c .before .pre .1))
+    tie.close (tie.spec (λ c κs. (c .before .pre .0 .placed, c .before .pre .1))
     (λ c. omega (arith, c .entry-at .ensures .1))
     (λ c κs. omega (arith, c .entry-at .ensures .1, c .before .before .pre .0 .media-end, c .before .before .pre .0 .placed .slots-end))
     returns)

@@ -60,5 +60,4 @@ returns c = let the-loop = c .before .loop in all-end _ _ _ _ (the-loop .inv .1)
 
 pub entries-ok-spec : {M : Type 1} → statement M
 entries-ok-spec =
-    tie.close
-    (tie.spec Inv-loop μ-loop loop-holds (λ c κs. search needs) keep-new-requires (λ c κs. search needs) byte-requires (λ c. search needs) (λ c. search needs) loop-again same-length returns)
+    tie.close (tie.spec Inv-loop μ-loop loop-holds (λ c κs. search needs) keep-new-requires (λ c κs. search needs) byte-requires (λ c. search needs) (λ c. search needs) loop-again same-length returns)

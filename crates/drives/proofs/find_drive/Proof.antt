@@ -36,6 +36,5 @@ returns-2 c = least-done _ _ _ (c .before .loop .inv .1) (omega arith) (omega ar
 
 pub find-drive-spec : {M : Type 1} → statement M
 find-drive-spec =
-    tie.close
-    (tie.spec Inv-loop μ-loop (λ c. (omega arith, least-start _)) (λ c κs. search needs)
+    tie.close (tie.spec Inv-loop μ-loop (λ c. (omega arith, least-start _)) (λ c κs. search needs)
     returns (λ c. search needs) (λ c. search needs) loop-again returns-2)

@@ -15,7 +15,6 @@ returns c =
 
 pub is-failed-spec : {M : Type 1} → statement M
 is-failed-spec =
-    tie.close
-    (tie.spec (λ c κs. (c .before .pre .0 .placed, c .before .pre .1))
+    tie.close (tie.spec (λ c κs. (c .before .pre .0 .placed, c .before .pre .1))
     (λ c κs. omega (arith, c .entry-at .ensures .1, c .before .before .pre .0 .media-end, c .before .before .pre .0 .placed .slots-end))
     returns)

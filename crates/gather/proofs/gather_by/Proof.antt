@@ -46,17 +46,5 @@ returns c =
 
 pub gather-by-spec : {M : Type 1} → statement M
 gather-by-spec =
-    tie.close
-    (tie.spec
-    Inv-loop
-    μ-loop
-    loop-holds
-    (λ c. search needs)
-    least-requires
-    gather-front-requires
-    (λ c. search needs)
-    loop-less
-    loop-again
-    (λ c. search needs)
-    (λ c. search needs)
-    returns)
+    tie.close (tie.spec Inv-loop μ-loop loop-holds (λ c. search needs) least-requires gather-front-requires (λ c. search needs)
+    loop-less loop-again (λ c. search needs) (λ c. search needs) returns)

@@ -27,11 +27,5 @@ returns c =
 
 pub gather-front-spec : {M : Type 1} → statement M
 gather-front-spec =
-    tie.close
-    (tie.spec
-    (λ c. search needs)
-    slice-aggregate-gather-piece
-    gather-piece-requires
-    (λ c. search needs)
-    (λ c. search needs)
-    returns)
+    tie.close (tie.spec (λ c. search needs) slice-aggregate-gather-piece gather-piece-requires (λ c. search needs)
+    (λ c. search needs) returns)

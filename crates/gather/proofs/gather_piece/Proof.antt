@@ -38,16 +38,5 @@ returns c =
 
 pub gather-piece-spec : {M : Type 1} → statement M
 gather-piece-spec =
-    tie.close
-    (tie.spec
-    (λ c. search needs)
-    (λ c. search needs)
-    (λ c κs. search needs)
-    xor-sources-requires
-    (λ c. search needs)
-    (λ c. search needs)
-    xor-int-requires
-    put-at-requires
-    (λ c. search needs)
-    (λ c. search needs)
-    returns)
+    tie.close (tie.spec (λ c. search needs) (λ c. search needs) (λ c κs. search needs) xor-sources-requires (λ c. search needs)
+    (λ c. search needs) xor-int-requires put-at-requires (λ c. search needs) (λ c. search needs) returns)

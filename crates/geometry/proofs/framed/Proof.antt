@@ -62,14 +62,5 @@ returns-5 c =
 
 pub framed-spec : {M : Type 1} → statement M
 framed-spec =
-    tie.close
-    (tie.spec
-    returns
-    (λ c κs. search needs)
-    (λ c κs. search needs)
-    returns-2
-    offsets-ok-requires
-    returns-3
-    end-requires
-    returns-4
-    returns-5)
+    tie.close (tie.spec returns (λ c κs. search needs) (λ c κs. search needs) returns-2 offsets-ok-requires returns-3
+    end-requires returns-4 returns-5)

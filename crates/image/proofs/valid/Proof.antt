@@ -57,12 +57,4 @@ returns-3 c =
 
 pub valid-spec : {M : Type 1} → statement M
 valid-spec =
-    tie.close
-    (tie.spec
-    (λ c κs. search needs)
-    returns
-    read-requires
-    table-ok-requires
-    returns-2
-    slots-ok-requires
-    returns-3)
+    tie.close (tie.spec (λ c κs. search needs) returns read-requires table-ok-requires returns-2 slots-ok-requires returns-3)

@@ -43,5 +43,4 @@ returns-5 c =
 
 pub leaf-xor-four-into-spec : {M : Type 1} → statement M
 leaf-xor-four-into-spec =
-    tie.close
-    (tie.spec returns returns-2 returns-3 returns-4 (λ c κs. search needs) (λ c. search needs) returns-5)
+    tie.close (tie.spec returns returns-2 returns-3 returns-4 (λ c κs. search needs) (λ c. search needs) returns-5)

@@ -104,7 +104,6 @@ returns-4 c =
 
 pub first-bad-spec : {M : Type 1} → statement M
 first-bad-spec =
-    tie.close
-    (tie.spec Inv-loop μ-loop Inv-entries μ-entries entries-holds (λ c κs. search needs)
+    tie.close (tie.spec Inv-loop μ-loop Inv-entries μ-entries entries-holds (λ c κs. search needs)
     (λ c. (omega arith, least-start _)) (λ c κs. search needs) (λ c. search needs) (λ c. search needs) loop-again
     (λ c κs. search needs) (λ c. search needs) (λ c. search needs) (λ c. search needs) entries-again returns returns-2 returns-3 returns-4)

@@ -42,7 +42,6 @@ returns c =
 
 pub fill-zero-spec : {M : Type 1} → statement M
 fill-zero-spec =
-    tie.close
-    (tie.spec Inv-loop μ-loop (λ c. (omega arith, refl, sym (put-nil _ _)))
+    tie.close (tie.spec Inv-loop μ-loop (λ c. (omega arith, refl, sym (put-nil _ _)))
     (λ c. omega arith) (λ c. omega arith) (λ c. omega arith)
     loop-again (λ c. omega arith) returns)

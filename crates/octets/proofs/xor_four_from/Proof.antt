@@ -38,8 +38,7 @@ returns c =
 
 pub xor-four-from-spec : {M : Type 1} → statement M
 xor-four-from-spec =
-    tie.close
-    (tie.spec
+    tie.close (tie.spec
     (λ c. let s = c .before .before .before in fits (s .pre .0) (s .good .1 .0 .0)) (λ c. le-add-right _ _) (λ c. le-add-right _ _)
     (λ c. c .before .before .before .pre .0)
     (λ c. let s = c .before .before .before .before in fits (s .pre .1) (s .good .1 .0 .0)) (λ c. le-add-right _ _) (λ c. le-add-right _ _)
@@ -47,7 +46,5 @@ xor-four-from-spec =
     (λ c. let s = c .before .before .before .before .before in fits (s .pre .2) (s .good .1 .0 .0)) (λ c. le-add-right _ _) (λ c. le-add-right _ _)
     (λ c. c .before .before .before .before .before .pre .2)
     (λ c. let s = c .before .before .before .before .before .before in fits (s .pre .3) (s .good .1 .0 .0)) (λ c. le-add-right _ _) (λ c. le-add-right _ _)
-    (λ c. c .before .before .before .before .before .before .pre .3)
-    requires
-    (λ c. c .before .before .xor-four-into .kept .0)
-    returns)
+    (λ c. c .before .before .before .before .before .before .pre .3) requires
+    (λ c. c .before .before .xor-four-into .kept .0) returns)

@@ -47,7 +47,6 @@ returns c =
 
 pub xor-four-into-spec : {M : Type 1} → statement M
 xor-four-into-spec =
-    tie.close
-    (tie.spec Inv-loop μ-loop (λ c. (omega arith, refl, sym (xor-nil _)))
+    tie.close (tie.spec Inv-loop μ-loop (λ c. (omega arith, refl, sym (xor-nil _)))
     (λ c. omega arith) (λ c. omega arith) (λ c. omega arith) (λ c. omega arith) (λ c. omega arith) (λ c. omega arith) (λ c. omega arith) (λ c. omega arith)
     loop-again (λ c. omega arith) returns)

@@ -33,7 +33,6 @@ returns c =
 
 pub xor-into-spec : {M : Type 1} → statement M
 xor-into-spec =
-    tie.close
-    (tie.spec Inv-loop μ-loop (λ c. (omega arith, refl, sym (xor-nil _)))
+    tie.close (tie.spec Inv-loop μ-loop (λ c. (omega arith, refl, sym (xor-nil _)))
     (λ c. omega arith) (λ c. omega arith) (λ c. omega arith) (λ c. omega arith) (λ c. omega arith)
     loop-again (λ c. omega arith) returns)

@@ -18,11 +18,5 @@ returns c = c .before .before .before .before .put-shelf .ensures .1
 
 pub list-in-spec : {M : Type 1} → statement M
 list-in-spec =
-    tie.close
-    (tie.spec
-    (λ c. search needs)
-    slice-aggregate-put-shelf
-    put-shelf-requires
-    (λ c. search needs)
-    (λ c. search needs)
+    tie.close (tie.spec (λ c. search needs) slice-aggregate-put-shelf put-shelf-requires (λ c. search needs) (λ c. search needs)
     returns)

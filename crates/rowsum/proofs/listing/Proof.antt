@@ -34,14 +34,5 @@ returns-2 c =
 
 pub listing-spec : {M : Type 1} → statement M
 listing-spec =
-    tie.close
-    (tie.spec
-    (λ c κs. search needs)
-    (λ c. search needs)
-    (λ c κs. search needs)
-    (λ c. search needs)
-    returns
-    read-requires
-    list-shelf-requires
-    (λ c. search needs)
-    returns-2)
+    tie.close (tie.spec (λ c κs. search needs) (λ c. search needs) (λ c κs. search needs) (λ c. search needs) returns
+    read-requires list-shelf-requires (λ c. search needs) returns-2)

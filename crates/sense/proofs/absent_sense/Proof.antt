@@ -12,5 +12,4 @@ returns c = simp (c .placed .ensures, c .before .plain .ensures, c .before .befo
 
 pub absent-sense-spec : {M : Type 1} → statement M
 absent-sense-spec =
-    tie.close
-    (tie.spec (λ c κs. search needs) (λ c. search needs) (λ c. search needs) (λ c κs. search needs) (λ c κs. search needs) returns)
+    tie.close (tie.spec (λ c κs. search needs) (λ c. search needs) (λ c. search needs) (λ c κs. search needs) (λ c κs. search needs) returns)

@@ -12,6 +12,5 @@ returns c = simp (c .placed .ensures, c .before .plain .ensures, c .before .befo
 
 pub nested-sense-spec : {M : Type 1} → statement M
 nested-sense-spec =
-    tie.close
-    (tie.spec (λ c κs. search needs) (λ c. search needs) (λ c. search needs) (λ c. search needs)
+    tie.close (tie.spec (λ c κs. search needs) (λ c. search needs) (λ c. search needs) (λ c. search needs)
     (λ c κs. search needs) (λ c κs. search needs) returns)

@@ -39,17 +39,6 @@ returns-2 c =
 
 pub step-spec : {M : Type 1} → statement M
 step-spec =
-    tie.close
-    (tie.spec
-    (λ c κs. search needs)
-    (λ c. search needs)
-    (λ c κs. search needs)
-    (λ c. search needs)
-    read-requires
-    carry-out-requires
-    (λ c κs. search needs)
-    (λ c. search needs)
-    returns
-    (λ c. search needs)
-    (λ c. search needs)
+    tie.close (tie.spec (λ c κs. search needs) (λ c. search needs) (λ c κs. search needs) (λ c. search needs) read-requires
+    carry-out-requires (λ c κs. search needs) (λ c. search needs) returns (λ c. search needs) (λ c. search needs)
     returns-2)

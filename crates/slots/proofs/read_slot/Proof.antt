@@ -20,9 +20,7 @@ returns c =
 
 pub read-slot-spec : {M : Type 1} → statement M
 read-slot-spec =
-    tie.close
-    (tie.spec
-    (λ c κs. (c .before .pre .0 .placed, c .before .pre .1))
+    tie.close (tie.spec (λ c κs. (c .before .pre .0 .placed, c .before .pre .1))
     (λ c. field-fits _ _ (c .slot-at .result) (c .before .before .pre .0) (c .slot-at .ensures .1) 8 (lit≤ tt) (c .before .before .good .0 .0))
     (λ c κs. field-room _ _ (c .slot-at .result) (c .before .before .pre .0) (c .slot-at .ensures .1) 8 4 (lit≤ tt))
     (λ c κs. rank-room _ _ (c .before .slot-at .result) (c .before .before .before .pre .0) (c .before .slot-at .ensures .1))

@@ -26,13 +26,5 @@ returns c =
 
 pub xdread-spec : {M : Type 1} → statement M
 xdread-spec =
-    tie.close
-    (tie.spec
-    (λ c κs. search needs)
-    (λ c. search needs)
-    (λ c. search needs)
-    hand-over-requires
-    (λ c κs. search needs)
-    (λ c. search needs)
-    (λ c. search needs)
-    returns)
+    tie.close (tie.spec (λ c κs. search needs) (λ c. search needs) (λ c. search needs) hand-over-requires (λ c κs. search needs)
+    (λ c. search needs) (λ c. search needs) returns)

@@ -12,5 +12,4 @@ returns-2 c = mix-plain _ _ _ _ (c .before .before .before .before .if1 .left) (
 
 pub mix-spec : {M : Type 1} → statement M
 mix-spec =
-    tie.close
-    (tie.spec (λ c κs. search needs) (λ c. search needs) returns (λ c κs. search needs) (λ c. search needs) returns-2)
+    tie.close (tie.spec (λ c κs. search needs) (λ c. search needs) returns (λ c κs. search needs) (λ c. search needs) returns-2)

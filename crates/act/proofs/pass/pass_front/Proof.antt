@@ -27,11 +27,5 @@ returns c =
 
 pub pass-front-spec : {M : Type 1} → statement M
 pass-front-spec =
-    tie.close
-    (tie.spec
-    (λ c. search needs)
-    slice-aggregate-pass-piece
-    pass-piece-requires
-    (λ c. search needs)
-    (λ c. search needs)
-    returns)
+    tie.close (tie.spec (λ c. search needs) slice-aggregate-pass-piece pass-piece-requires (λ c. search needs)
+    (λ c. search needs) returns)

@@ -37,16 +37,6 @@ byte-requires c κs =
 
 pub regenerate-spec : {M : Type 1} → statement M
 regenerate-spec =
-    tie.close
-    (tie.spec
-    byte-requires
-    (λ c κs. search needs)
-    (λ c. omega (arith, c .used-count .ensures .1))
-    (λ c κs. search needs)
-    (λ c κs. search needs)
-    (λ c. search needs)
-    gather-requires
-    (λ c κs. search needs)
-    (λ c κs. search needs)
-    (λ c. search needs)
-    returns)
+    tie.close (tie.spec byte-requires (λ c κs. search needs) (λ c. omega (arith, c .used-count .ensures .1))
+    (λ c κs. search needs) (λ c κs. search needs) (λ c. search needs) gather-requires (λ c κs. search needs)
+    (λ c κs. search needs) (λ c. search needs) returns)

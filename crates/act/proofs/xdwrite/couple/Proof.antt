@@ -32,5 +32,4 @@ returns c =
 
 pub couple-spec : {M : Type 1} → statement M
 couple-spec =
-    tie.close
-    (tie.spec (λ c κs. search needs) (λ c κs. search needs) pass-on-requires put-at-requires (λ c. search needs) returns)
+    tie.close (tie.spec (λ c κs. search needs) (λ c κs. search needs) pass-on-requires put-at-requires (λ c. search needs) returns)

@@ -39,16 +39,6 @@ returns c =
 
 pub retain-spec : {M : Type 1} → statement M
 retain-spec =
-    tie.close
-    (tie.spec
-    (λ c κs. search needs)
-    (λ c. omega (arith, c .used-count .ensures .1))
-    (λ c κs. search needs)
-    (λ c κs. search needs)
-    (λ c. search needs)
-    pass-on-requires
-    write-data-requires
-    (λ c κs. search needs)
-    (λ c κs. search needs)
-    (λ c. search needs)
-    returns)
+    tie.close (tie.spec (λ c κs. search needs) (λ c. omega (arith, c .used-count .ensures .1)) (λ c κs. search needs)
+    (λ c κs. search needs) (λ c. search needs) pass-on-requires write-data-requires (λ c κs. search needs)
+    (λ c κs. search needs) (λ c. search needs) returns)

@@ -39,13 +39,5 @@ returns c =
 
 pub xdwriteread-spec : {M : Type 1} → statement M
 xdwriteread-spec =
-    tie.close
-    (tie.spec
-    (λ c κs. search needs)
-    (λ c. search needs)
-    slice-aggregate-mix
-    mix-requires
-    write-data-requires
-    (λ c. search needs)
-    (λ c. search needs)
-    returns)
+    tie.close (tie.spec (λ c κs. search needs) (λ c. search needs) slice-aggregate-mix mix-requires write-data-requires
+    (λ c. search needs) (λ c. search needs) returns)

@@ -67,35 +67,8 @@ returns-10 c = (c .ten7 .ensures .0 ∙ rw (c .before .enum-told10 .given .1), c
 
 pub decode-spec : {M : Type 1} → statement M
 decode-spec =
-    tie.close
-    (tie.spec
-    (λ c. search needs)
-    sixteen-requires
-    (λ c. search needs)
-    ten-requires
-    (λ c. search needs)
-    ten-requires-2
-    (λ c. search needs)
-    listed-requires
-    (λ c. search needs)
-    listed-requires-2
-    (λ c. search needs)
-    ten-requires-3
-    (λ c. search needs)
-    ten-requires-4
-    (λ c. search needs)
-    ten-requires-5
-    (λ c. search needs)
-    ten-requires-6
-    (λ c. search needs)
-    ten-requires-7
-    returns
-    returns-2
-    returns-3
-    returns-4
-    returns-5
-    returns-6
-    returns-7
-    returns-8
-    returns-9
-    returns-10)
+    tie.close (tie.spec (λ c. search needs) sixteen-requires (λ c. search needs) ten-requires (λ c. search needs) ten-requires-2
+    (λ c. search needs) listed-requires (λ c. search needs) listed-requires-2 (λ c. search needs) ten-requires-3
+    (λ c. search needs) ten-requires-4 (λ c. search needs) ten-requires-5 (λ c. search needs) ten-requires-6
+    (λ c. search needs) ten-requires-7 returns returns-2 returns-3 returns-4 returns-5 returns-6 returns-7 returns-8
+    returns-9 returns-10)

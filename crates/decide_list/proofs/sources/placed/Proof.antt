@@ -25,13 +25,5 @@ returns-3 c =
 
 pub placed-spec : {M : Type 1} → statement M
 placed-spec =
-    tie.close
-    (tie.spec
-    (λ c. search needs)
-    returns
-    (λ c κs. search needs)
-    returns-2
-    (λ c κs. search needs)
-    (λ c κs. search needs)
-    (λ c κs. search needs)
-    returns-3)
+    tie.close (tie.spec (λ c. search needs) returns (λ c κs. search needs) returns-2 (λ c κs. search needs)
+    (λ c κs. search needs) (λ c κs. search needs) returns-3)

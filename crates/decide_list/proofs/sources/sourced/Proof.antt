@@ -23,14 +23,5 @@ returns-4 c = rw (sym (c .before .before .before .first-bad .ensures) ∙ c .bef
 
 pub sourced-spec : {M : Type 1} → statement M
 sourced-spec =
-    tie.close
-    (tie.spec
-    (λ c κs. search needs)
-    (λ c. search needs)
-    returns
-    (λ c. search needs)
-    returns-2
-    (λ c. search needs)
-    returns-3
-    (λ c. search needs)
-    returns-4)
+    tie.close (tie.spec (λ c κs. search needs) (λ c. search needs) returns (λ c. search needs) returns-2 (λ c. search needs)
+    returns-3 (λ c. search needs) returns-4)

@@ -35,15 +35,5 @@ returns-3 c =
 
 pub matched-spec : {M : Type 1} → statement M
 matched-spec =
-    tie.close
-    (tie.spec
-    (λ c κs. search needs)
-    (λ c. search needs)
-    (λ c. search needs)
-    returns
-    read-slot-requires
-    returns-2
-    (λ c κs. search needs)
-    (λ c κs. search needs)
-    (λ c κs. search needs)
-    returns-3)
+    tie.close (tie.spec (λ c κs. search needs) (λ c. search needs) (λ c. search needs) returns read-slot-requires returns-2
+    (λ c κs. search needs) (λ c κs. search needs) (λ c κs. search needs) returns-3)

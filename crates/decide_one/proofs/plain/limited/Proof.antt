@@ -20,9 +20,4 @@ returns-3 c = c .plain .ensures ∙ limited-on _ _ _ _ _ (c .before .before .if1
 
 pub limited-spec : {M : Type 1} → statement M
 limited-spec =
-    tie.close
-    (tie.spec
-    returns
-    returns-2
-    (λ c κs. search needs)
-    returns-3)
+    tie.close (tie.spec returns returns-2 (λ c κs. search needs) returns-3)

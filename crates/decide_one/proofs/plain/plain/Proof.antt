@@ -27,11 +27,4 @@ returns-5 c = search tests
 
 pub plain-spec : {M : Type 1} → statement M
 plain-spec =
-    tie.close
-    (tie.spec
-    returns
-    returns-2
-    returns-3
-    (λ c. search needs)
-    returns-4
-    returns-5)
+    tie.close (tie.spec returns returns-2 returns-3 (λ c. search needs) returns-4 returns-5)

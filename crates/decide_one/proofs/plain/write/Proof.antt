@@ -18,10 +18,4 @@ returns c = c .settle .ensures ∙ write-on _ _ _ _ (c .before .span .ensures) _
 
 pub write-spec : {M : Type 1} → statement M
 write-spec =
-    tie.close
-    (tie.spec
-    mul-limited
-    (λ c κs. search needs)
-    (λ c κs. search needs)
-    (λ c κs. search needs)
-    returns)
+    tie.close (tie.spec mul-limited (λ c κs. search needs) (λ c κs. search needs) (λ c κs. search needs) returns)

@@ -18,10 +18,4 @@ returns c = c .settle .ensures ∙ xpwrite-on _ _ _ _ (c .before .span .ensures)
 
 pub xpwrite-spec : {M : Type 1} → statement M
 xpwrite-spec =
-    tie.close
-    (tie.spec
-    mul-limited
-    (λ c κs. search needs)
-    (λ c κs. search needs)
-    (λ c κs. search needs)
-    returns)
+    tie.close (tie.spec mul-limited (λ c κs. search needs) (λ c κs. search needs) (λ c κs. search needs) returns)

@@ -13,10 +13,4 @@ returns-2 c = retains-at _ _ _ _ _ (sym (c .before .before .before .empty-slot .
 
 pub retained-spec : {M : Type 1} → statement M
 retained-spec =
-    tie.close
-    (tie.spec
-    (λ c κs. search needs)
-    (λ c. search needs)
-    (λ c. search needs)
-    returns
-    returns-2)
+    tie.close (tie.spec (λ c κs. search needs) (λ c. search needs) (λ c. search needs) returns returns-2)

@@ -26,14 +26,5 @@ returns-2 c =
 
 pub xdwrite-ten-spec : {M : Type 1} → statement M
 xdwrite-ten-spec =
-    tie.close
-    (tie.spec
-    mul-limited
-    (λ c κs. search needs)
-    (λ c. search needs)
-    returns
-    (λ c. search needs)
-    (λ c κs. search needs)
-    (λ c κs. search needs)
-    (λ c κs. search needs)
-    returns-2)
+    tie.close (tie.spec mul-limited (λ c κs. search needs) (λ c. search needs) returns (λ c. search needs)
+    (λ c κs. search needs) (λ c κs. search needs) (λ c κs. search needs) returns-2)

@@ -23,12 +23,5 @@ returns c =
 
 pub xdwriteread-spec : {M : Type 1} → statement M
 xdwriteread-spec =
-    tie.close
-    (tie.spec
-    mul-limited
-    (λ c κs. search needs)
-    (λ c κs. search needs)
-    (λ c κs. search needs)
-    (λ c κs. search needs)
-    (λ c κs. search needs)
-    returns)
+    tie.close (tie.spec mul-limited (λ c κs. search needs) (λ c κs. search needs) (λ c κs. search needs) (λ c κs. search needs)
+    (λ c κs. search needs) returns)

@@ -13,5 +13,4 @@ returns-2 c = c .before .before .fill-zero .ensures ∙ seed-zeros _ _ _ _ (c .b
 
 pub seed-spec : {M : Type 1} → statement M
 seed-spec =
-    tie.close
-    (tie.spec (λ c κs. search needs) (λ c. search needs) returns (λ c κs. search needs) (λ c. search needs) returns-2)
+    tie.close (tie.spec (λ c κs. search needs) (λ c. search needs) returns (λ c κs. search needs) (λ c. search needs) returns-2)

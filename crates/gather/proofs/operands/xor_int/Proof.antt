@@ -25,12 +25,5 @@ returns-2 c =
 
 pub xor-int-spec : {M : Type 1} → statement M
 xor-int-spec =
-    tie.close
-    (tie.spec
-    returns
-    (λ c. search needs)
-    (λ c. search needs)
-    (λ c. search needs)
-    xor-from-requires
-    (λ c. search needs)
-    returns-2)
+    tie.close (tie.spec returns (λ c. search needs) (λ c. search needs) (λ c. search needs) xor-from-requires
+    (λ c. search needs) returns-2)

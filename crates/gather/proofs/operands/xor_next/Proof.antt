@@ -70,29 +70,7 @@ returns-2 c =
 
 pub xor-next-spec : {M : Type 1} → statement M
 xor-next-spec =
-    tie.close
-    (tie.spec
-    (λ c. search needs)
-    (λ c. search needs)
-    add-xor-from
-    xor-from-requires
-    (λ c. search needs)
-    returns
-    (λ c. search needs)
-    (λ c. search needs)
-    add-a
-    (λ c. search needs)
-    (λ c. search needs)
-    (λ c. search needs)
-    add-b-2
-    (λ c. search needs)
-    (λ c. search needs)
-    (λ c. search needs)
-    add-c-2
-    (λ c. search needs)
-    (λ c. search needs)
-    (λ c. search needs)
-    add-d-2
-    xor-four-from-requires
-    (λ c. search needs)
-    returns-2)
+    tie.close (tie.spec (λ c. search needs) (λ c. search needs) add-xor-from xor-from-requires (λ c. search needs) returns
+    (λ c. search needs) (λ c. search needs) add-a (λ c. search needs) (λ c. search needs) (λ c. search needs) add-b-2
+    (λ c. search needs) (λ c. search needs) (λ c. search needs) add-c-2 (λ c. search needs) (λ c. search needs)
+    (λ c. search needs) add-d-2 xor-four-from-requires (λ c. search needs) returns-2)

@@ -39,17 +39,5 @@ returns c = starts-done _ _ _ _ _ _ _ _ (c .before .loop .inv .2) (omega arith) 
 
 pub find-all-spec : {M : Type 1} → statement M
 find-all-spec =
-    tie.close
-    (tie.spec
-    Inv-loop
-    μ-loop
-    loop-holds
-    read-requires
-    start-requires
-    (λ c. search needs)
-    (λ c. search needs)
-    (λ c. search needs)
-    (λ c. search needs)
-    loop-again
-    (λ c. search needs)
-    returns)
+    tie.close (tie.spec Inv-loop μ-loop loop-holds read-requires start-requires (λ c. search needs) (λ c. search needs)
+    (λ c. search needs) (λ c. search needs) loop-again (λ c. search needs) returns)

@@ -19,14 +19,10 @@ returns c =
 
 pub read-spec : {M : Type 1} → statement M
 read-spec =
-    tie.close
-    (tie.spec
-    (λ c κs. le-trans (lit≤ tt) (c .before .pre))
-    (λ c κs. le-trans (lit≤ tt) (c .before .before .pre))
+    tie.close (tie.spec (λ c κs. le-trans (lit≤ tt) (c .before .pre)) (λ c κs. le-trans (lit≤ tt) (c .before .before .pre))
     (λ c κs. le-trans (lit≤ tt) (c .before .before .before .pre))
     (λ c κs. le-trans (lit≤ tt) (c .before .before .before .before .pre))
     (λ c κs. le-trans (lit≤ tt) (c .before .before .before .before .before .pre))
     (λ c κs. le-trans (lit≤ tt) (c .before .before .before .before .before .before .pre))
     (λ c κs. le-trans (lit≤ tt) (c .before .before .before .before .before .before .before .pre))
-    (λ c κs. le-trans (lit≤ tt) (c .before .before .before .before .before .before .before .before .pre))
-    returns)
+    (λ c κs. le-trans (lit≤ tt) (c .before .before .before .before .before .before .before .before .pre)) returns)

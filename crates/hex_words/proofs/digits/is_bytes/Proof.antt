@@ -40,12 +40,4 @@ returns-4 c =
 
 pub is-bytes-spec : {M : Type 1} → statement M
 is-bytes-spec =
-    tie.close
-    (tie.spec
-    (λ c. search needs)
-    (λ c κs. search needs)
-    returns
-    returns-2
-    returns-3
-    (λ c κs. search needs)
-    returns-4)
+    tie.close (tie.spec (λ c. search needs) (λ c κs. search needs) returns returns-2 returns-3 (λ c κs. search needs) returns-4)

@@ -24,11 +24,5 @@ returns c =
 
 pub number-spec : {M : Type 1} → statement M
 number-spec =
-    tie.close
-    (tie.spec
-    (λ c. search needs)
-    unhex-requires
-    (λ c. search needs)
-    (λ c κs. search needs)
-    (λ c. search needs)
+    tie.close (tie.spec (λ c. search needs) unhex-requires (λ c. search needs) (λ c κs. search needs) (λ c. search needs)
     returns)

@@ -51,23 +51,6 @@ returns c =
 
 pub unhex-spec : {M : Type 1} → statement M
 unhex-spec =
-    tie.close
-    (tie.spec
-    Inv-loop
-    μ-loop
-    loop-holds
-    (λ c. search needs)
-    (λ c. search needs)
-    digit-requires
-    (λ c. search needs)
-    (λ c. search needs)
-    (λ c. search needs)
-    digit-requires-2
-    mul-room
-    add-room
-    (λ c. omega arith)
-    (λ c. search needs)
-    (λ c. search needs)
-    loop-again
-    (λ c. search needs)
-    returns)
+    tie.close (tie.spec Inv-loop μ-loop loop-holds (λ c. search needs) (λ c. search needs) digit-requires (λ c. search needs)
+    (λ c. search needs) (λ c. search needs) digit-requires-2 mul-room add-room (λ c. omega arith) (λ c. search needs)
+    (λ c. search needs) loop-again (λ c. search needs) returns)

@@ -25,6 +25,5 @@ returns c = let the-loop = c .before .loop in (all-end _ _ _ _ (the-loop .inv .1
 
 pub keep-new-spec : {M : Type 1} → statement M
 keep-new-spec =
-    tie.close
-    (tie.spec Inv-loop μ-loop (λ c. search needs) loop-holds (λ c. search needs) (λ c. search needs) (λ c. search needs) (λ c. search needs) loop-again
+    tie.close (tie.spec Inv-loop μ-loop (λ c. search needs) loop-holds (λ c. search needs) (λ c. search needs) (λ c. search needs) (λ c. search needs) loop-again
     (λ c. search needs) (λ c. search needs) (λ c. search needs) returns)

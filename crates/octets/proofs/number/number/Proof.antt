@@ -53,17 +53,5 @@ returns c =
 
 pub number-spec : {M : Type 1} → statement M
 number-spec =
-    tie.close
-    (tie.spec
-    Inv-loop
-    μ-loop
-    loop-holds
-    mul-v
-    (λ c. omega arith)
-    (λ c. omega arith)
-    wide-requires
-    add-v
-    (λ c. omega arith)
-    (λ c. omega arith)
-    loop-again
-    returns)
+    tie.close (tie.spec Inv-loop μ-loop loop-holds mul-v (λ c. omega arith) (λ c. omega arith) wide-requires add-v
+    (λ c. omega arith) (λ c. omega arith) loop-again returns)

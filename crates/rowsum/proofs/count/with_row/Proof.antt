@@ -27,13 +27,5 @@ returns-2 c =
 
 pub with-row-spec : {M : Type 1} → statement M
 with-row-spec =
-    tie.close
-    (tie.spec
-    (λ c κs. search needs)
-    (λ c. search needs)
-    returns
-    (λ c κs. search needs)
-    (λ c. search needs)
-    (λ c. search needs)
-    (λ c. search needs)
-    returns-2)
+    tie.close (tie.spec (λ c κs. search needs) (λ c. search needs) returns (λ c κs. search needs) (λ c. search needs)
+    (λ c. search needs) (λ c. search needs) returns-2)

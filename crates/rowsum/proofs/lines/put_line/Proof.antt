@@ -25,14 +25,5 @@ returns c =
 
 pub put-line-spec : {M : Type 1} → statement M
 put-line-spec =
-    tie.close
-    (tie.spec
-    (λ c. search needs)
-    (λ c κs. search needs)
-    (λ c. search needs)
-    (λ c κs. search needs)
-    (λ c κs. search needs)
-    (λ c. search needs)
-    put-word-requires-2
-    (λ c. search needs)
-    returns)
+    tie.close (tie.spec (λ c. search needs) (λ c κs. search needs) (λ c. search needs) (λ c κs. search needs)
+    (λ c κs. search needs) (λ c. search needs) put-word-requires-2 (λ c. search needs) returns)

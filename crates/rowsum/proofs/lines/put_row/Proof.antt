@@ -39,12 +39,5 @@ returns-2 c =
 
 pub put-row-spec : {M : Type 1} → statement M
 put-row-spec =
-    tie.close
-    (tie.spec
-    (λ c κs. search needs)
-    (λ c. search needs)
-    returns
-    put-line-requires
-    (λ c. search needs)
-    (λ c. search needs)
-    returns-2)
+    tie.close (tie.spec (λ c κs. search needs) (λ c. search needs) returns put-line-requires (λ c. search needs)
+    (λ c. search needs) returns-2)

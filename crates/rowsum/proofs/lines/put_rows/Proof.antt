@@ -45,15 +45,5 @@ returns c =
 
 pub put-rows-spec : {M : Type 1} → statement M
 put-rows-spec =
-    tie.close
-    (tie.spec
-    Inv-loop
-    μ-loop
-    loop-holds
-    put-row-requires
-    (λ c. search needs)
-    (λ c. search needs)
-    loop-again
-    (λ c. search needs)
-    (λ c. search needs)
-    returns)
+    tie.close (tie.spec Inv-loop μ-loop loop-holds put-row-requires (λ c. search needs) (λ c. search needs) loop-again
+    (λ c. search needs) (λ c. search needs) returns)

@@ -41,15 +41,5 @@ returns-2 c =
 
 pub put-shelf-spec : {M : Type 1} → statement M
 put-shelf-spec =
-    tie.close
-    (tie.spec
-    (λ c κs. search needs)
-    (λ c κs. search needs)
-    (λ c. search needs)
-    (λ c. search needs)
-    returns
-    (λ c κs. search needs)
-    put-rows-requires
-    (λ c. search needs)
-    (λ c. search needs)
-    returns-2)
+    tie.close (tie.spec (λ c κs. search needs) (λ c κs. search needs) (λ c. search needs) (λ c. search needs) returns
+    (λ c κs. search needs) put-rows-requires (λ c. search needs) (λ c. search needs) returns-2)

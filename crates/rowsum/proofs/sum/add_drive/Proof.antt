@@ -41,5 +41,4 @@ returns-2 c =
 
 pub add-drive-spec : {M : Type 1} → statement M
 add-drive-spec =
-    tie.close
-    (tie.spec (λ c κs. search needs) returns (λ c κs. search needs) xor-from-requires (λ c. search needs) returns-2)
+    tie.close (tie.spec (λ c κs. search needs) returns (λ c κs. search needs) xor-from-requires (λ c. search needs) returns-2)

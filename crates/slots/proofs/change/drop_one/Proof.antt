@@ -12,5 +12,4 @@ returns-2 c = drop-miss _ _ _ _ _ (c .before .before .before .read-slot .ensures
 
 pub drop-one-spec : {M : Type 1} → statement M
 drop-one-spec =
-    tie.close
-    (tie.spec (λ c κs. c .before .before .pre) (λ c κs. c .before .before .before .before .before .before .before .pre) (λ c. c .before .before .release .kept .0) returns (λ c. refl) returns-2)
+    tie.close (tie.spec (λ c κs. c .before .before .pre) (λ c κs. c .before .before .before .before .before .before .before .pre) (λ c. c .before .before .release .kept .0) returns (λ c. refl) returns-2)

@@ -29,14 +29,5 @@ returns c = lowered-done _ _ _ _ _ (c .before .loop .inv .2) (omega arith) (omeg
 
 pub lower-spec : {M : Type 1} → statement M
 lower-spec =
-    tie.close
-    (tie.spec
-    Inv-loop
-    μ-loop
-    loop-holds
-    (λ c κs. search needs)
-    (λ c. search needs)
-    (λ c. search needs)
-    loop-again
-    (λ c. search needs)
-    returns)
+    tie.close (tie.spec Inv-loop μ-loop loop-holds (λ c κs. search needs) (λ c. search needs) (λ c. search needs) loop-again
+    (λ c. search needs) returns)

@@ -20,13 +20,8 @@ returns-2 c = lower-miss _ _ _ _ _ _ (c .before .before .before .slot-at .ensure
 
 pub lower-one-spec : {M : Type 1} → statement M
 lower-one-spec =
-    tie.close
-    (tie.spec
-    (λ c κs. (c .before .pre .0 .placed, c .before .pre .1))
+    tie.close (tie.spec (λ c κs. (c .before .pre .0 .placed, c .before .pre .1))
     (λ c κs. rank-room _ _ (c .before .slot-at .result) (c .before .before .before .pre .0) (c .before .slot-at .ensures .1))
     (λ c. lt-of-le-of-lt zero-le (c .before .if1 .taken))
     (λ c κs. rank-room _ _ (c .before .before .before .before .slot-at .result) (c .before .before .before .before .before .before .pre .0) (c .before .before .before .before .slot-at .ensures .1))
-    (λ c. c .before .before .put-be4 .kept .0)
-    returns
-    (λ c. refl)
-    returns-2)
+    (λ c. c .before .before .put-be4 .kept .0) returns (λ c. refl) returns-2)

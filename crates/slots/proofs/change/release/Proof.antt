@@ -17,9 +17,7 @@ returns c =
 
 pub release-spec : {M : Type 1} → statement M
 release-spec =
-    tie.close
-    (tie.spec
-    (λ c κs. (c .before .pre .0 .placed, c .before .pre .1))
+    tie.close (tie.spec (λ c κs. (c .before .pre .0 .placed, c .before .pre .1))
     (λ c κs. rank-room _ _ (c .before .slot-at .result) (c .before .before .before .pre .0) (c .before .slot-at .ensures .1))
     (λ c. search needs)
     (λ c κs. record-room _ _ (c .before .before .before .before .slot-at .result) (c .before .before .before .before .before .before .pre .0) (c .before .before .before .before .slot-at .ensures .1))

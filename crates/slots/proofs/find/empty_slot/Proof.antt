@@ -41,5 +41,4 @@ returns-2 c = let the-loop = c .before .loop in least-done _ _ _ (the-loop .inv 
 
 pub empty-slot-spec : {M : Type 1} → statement M
 empty-slot-spec =
-    tie.close
-    (tie.spec Inv-loop μ-loop (λ c. (search needs, least-start _)) (λ c κs. search needs) returns (λ c. search needs) (λ c. search needs) loop-again returns-2)
+    tie.close (tie.spec Inv-loop μ-loop (λ c. (search needs, least-start _)) (λ c κs. search needs) returns (λ c. search needs) (λ c. search needs) loop-again returns-2)

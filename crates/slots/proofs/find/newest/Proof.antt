@@ -28,14 +28,5 @@ returns c = best-done _ _ _ _ _ _ (c .before .loop .inv .1) (search needs) (sear
 
 pub newest-spec : {M : Type 1} → statement M
 newest-spec =
-    tie.close
-    (tie.spec
-    Inv-loop
-    μ-loop
-    loop-holds
-    (λ c κs. search needs)
-    (λ c κs. search needs)
-    (λ c. search needs)
-    (λ c. search needs)
-    loop-again
-    returns)
+    tie.close (tie.spec Inv-loop μ-loop loop-holds (λ c κs. search needs) (λ c κs. search needs) (λ c. search needs)
+    (λ c. search needs) loop-again returns)

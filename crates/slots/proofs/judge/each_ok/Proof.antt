@@ -55,5 +55,4 @@ returns c =
 
 pub each-ok-spec : {M : Type 1} → statement M
 each-ok-spec =
-    tie.close
-    (tie.spec Inv-loop μ-loop loop-holds (λ c κs. search needs) (λ c κs. search needs) keep-new-requires (λ c κs. search needs) (λ c. search needs) (λ c. search needs) loop-again (λ c. c .before .loop .inv .2) returns)
+    tie.close (tie.spec Inv-loop μ-loop loop-holds (λ c κs. search needs) (λ c κs. search needs) keep-new-requires (λ c κs. search needs) (λ c. search needs) (λ c. search needs) loop-again (λ c. c .before .loop .inv .2) returns)

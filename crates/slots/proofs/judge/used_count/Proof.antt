@@ -34,5 +34,4 @@ returns c =
 
 pub used-count-spec : {M : Type 1} → statement M
 used-count-spec =
-    tie.close
-    (tie.spec Inv-loop μ-loop (λ c. (search needs, search needs, sym (count-none _))) (λ c κs. search needs) (λ c. search needs) add-k (λ c. search needs) (λ c. search needs) loop-again returns)
+    tie.close (tie.spec Inv-loop μ-loop (λ c. (search needs, search needs, sym (count-none _))) (λ c κs. search needs) (λ c. search needs) add-k (λ c. search needs) (λ c. search needs) loop-again returns)
