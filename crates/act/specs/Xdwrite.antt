@@ -1,19 +1,19 @@
 -- XDWRITE, XDWRITE(10) and XDWRITEREAD(10), from what the decision showed to what the command leaves.
 use Prim.Native.Nat.{ℕ, _+_, _*_, _≤_}
 use native.Mathlib.Omega.{arith}
-use mathlib.Core.Path.{_≡_, sym, ap, ap₂, _∙_}
-use mathlib.Core.Bool.{false, cond}
+use mathlib.Core.Path.{_≡_, sym, ap, ap₂, _∙_, refl}
+use mathlib.Core.Bool.{false, cond, Bool, true}
 use mathlib.Core.Logic.{inl, inr, ⊎-elim}
-use mathlib.Core.List.{List, [], _∷_, _++_}
+use mathlib.Core.List.{List, [], _∷_, _++_, map}
 use lib.Dec.{eqb}
 use lib.ListN.{length, take, drop}
 use lib.Seq.{length-take-le}
 use Rattle.octets.specs.Part.{part, part-all, length-part-le}
-use Rattle.octets.specs.Put.{put, put-cut}
+use Rattle.octets.specs.Put.{put, put-cut, put-nil}
 use Rattle.octets.specs.Xor.{_⊻_, length-xor-le}
 use Rattle.geometry.specs.declared.Geometry.{Geometry}
 use Rattle.geometry.specs.Header.{slotAt, dataAt}
-use Rattle.geometry.specs.Stores.{store, Slots}
+use Rattle.geometry.specs.Stores.{store, Slots, Store, stored}
 use Rattle.geometry.specs.Frame.{Framed}
 use Rattle.geometry.specs.Places.{Range, places-apart, slot-before-media, data-ends, data-in}
 use Rattle.slots.specs.Record.{bytesOf}
@@ -21,12 +21,22 @@ use Rattle.slots.specs.Slots.{usedCount}
 use Rattle.slots.specs.Change.{entry}
 use Rattle.meaning.specs.declared.Span.{Span}
 use Rattle.meaning.specs.declared.Act.the-variants.{Couple, Retain, XdWriteRead}
-use Rattle.meaning.specs.Acts.{spanAt, blocksOf, mixed, laid, leaves, hands}
-use Rattle.meaning.specs.Stores.{stored-data}
+use Rattle.meaning.specs.Acts.{spanAt, blocksOf, mixed, laid, leaves, hands, over, blockStore, dataOver}
 use Rattle.meaning.specs.Allowed.{Blocks, Filled, Roomy, Limited, Free}
 use Rattle.meaning.specs.Lengths.{span-after-media, span-in}
 use Rattle.act.specs.declared.pass.Pass.{Pass}
 use Rattle.act.specs.Pass.{passedOf, Passable}
+
+-- ---- the data, alone and before a record
+
+-- nothing stored is nothing written
+stored-data : (m : List ℕ) (g : Geometry) (x : Span) (ndisc : ℕ) (s : List ℕ) (ws : List Store)
+    → stored m (map (blockStore g) (dataOver x ndisc s) ++ ws) ≡ stored (put m (spanAt g x) (cond (eqb ndisc 0) s [])) ws
+stored-data m g x ndisc s ws = pick (eqb ndisc 0)
+  where
+    pick : (writes : Bool) → stored m (map (blockStore g) (cond writes (over x s ∷ []) []) ++ ws) ≡ stored (put m (spanAt g x) (cond writes s [])) ws
+    pick true = refl
+    pick false = ap (λ (t : List ℕ). stored t ws) (sym (put-nil m (spanAt g x)))
 
 -- ---- the result goes to the secondary
 

@@ -1,8 +1,9 @@
 -- What a caller's laws speak of: blocks of a drive, a drive that is called, and what a call that is GOOD leaves.
+pub use Rattle.demands_one_two.specs.Effects.{resultIn}
 use Prim.Native.Nat.{ℕ, _<_}
 use native.Mathlib.Omega.{arith}
 use mathlib.Core.Bool.{false}
-use mathlib.Core.Path.{_≡_}
+use mathlib.Core.Path.{_≡_, ap, _∙_}
 use mathlib.Core.List.{List}
 use lib.ListN.{length}
 use Rattle.octets.specs.Put.{put}
@@ -21,8 +22,9 @@ use Rattle.meaning.specs.declared.Span.{Span}
 use Rattle.meaning.specs.declared.Summing.{Summing}
 use Rattle.meaning.specs.Acts.{Over}
 use Rattle.meaning.specs.Step.{stepOutcome, stepRoom, stepImage}
-pub use Rattle.demands_one_two.specs.Effects.{resultIn}
 use Rattle.callers.specs.After.{After}
+use lib.Dec.{eqb}
+use Rattle.drives.specs.Front.{drive-ext}
 
 -- what is summed by a command that came as a, with Int Data or not
 abbrev pub summing : Came → ℕ → Summing
@@ -52,3 +54,12 @@ own-address m g t h l e = record { shelf = h; found = drive-found m g (h .table-
 -- an address of an image of bytes fits the three bytes of XDWRITE's CDB
 pub address-fits : (m : List ℕ) (g : Geometry) → Shelf m g → Octets m → (a : Came) (x t : ℕ) → secondaryOf m g a x ≡ At t → x < 16777216
 address-fits m g h o a x t e = let w = drive-inside m g x t e in omega (arith, address-lt m g (shelf-frame m g h) o t (w .0), w .1)
+
+-- a command leaves the drives as they were, so that the next one finds its target
+pub next : (m m′ : List ℕ) (g : Geometry) (ws : List Over) (rs : List Result) → After m m′ g (stateOf m g) ws rs → (a : Came) (t : ℕ) → Target m g a t → Target m′ g a t
+next m m′ g ws rs d a t h =
+    record {
+      shelf = d .shelf;
+      found = drive-ext m′ m g (d .address-kept) (a .target .0) ∙ h .found;
+      present = ap (λ (k : ℕ). eqb k 1) (d .state-is t (drive-inside m g (a .target .0) t (h .found) .0)) ∙ h .present;
+    }

@@ -40,10 +40,9 @@ use Rattle.callers.specs.Reads.{read-does, xdread-does}
 use Rattle.callers.specs.Writes.{write-does, xpwrite-does}
 use Rattle.callers.specs.Xdwrites.{coupled-does, retained-does}
 use Rattle.callers.specs.Published.{xdwrite-ten-does, xdwriteread-writes, xdwriteread-keeps}
-use Rattle.callers.specs.Idle.{idle-does}
 use Rattle.callers.specs.Sources.{Names}
 use Rattle.callers.specs.Listed.{together-byte}
-use Rattle.callers.specs.IdleLists.{rebuild-unlisted}
+use Rattle.callers.specs.Idle.{idle-does, rebuild-unlisted}
 use Rattle.callers.specs.Operands.{rebuild-does, regenerate-does}
 
 -- ---- the CDBs and a list, byte for byte

@@ -9,12 +9,10 @@ pub mod Limited
 pub mod Writes
 pub mod Xdwrites
 pub mod Published
-pub mod Idle
 pub mod Sources
 pub mod Listed
-pub mod IdleLists
+pub mod Idle
 pub mod Rebuilds
 pub mod Operands
 pub mod Example
-pub mod Next
 pub mod Drives

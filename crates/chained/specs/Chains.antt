@@ -1,7 +1,7 @@
 -- What one call left the next one finds: blocks written are read, and a result retained is handed out.
 use Prim.Native.Nat.{ℕ, _<_}
 use mathlib.Core.Bool.{true}
-use mathlib.Core.List.{List, [], _∷_}
+use mathlib.Core.List.{List, []}
 use mathlib.Core.Path.{_≡_, refl, ap, subst, _∙_}
 use lib.ListN.{length}
 use borrow.Author.Tests.{eq-eqb}
@@ -18,11 +18,10 @@ use Rattle.command.specs.Command.{opOf}
 use Rattle.meaning.specs.Step.{stepImage}
 use Rattle.meaning.specs.Allowed.{Blocks, Filled, Roomy, Limited}
 use Rattle.callers.specs.Bytes.{readCdb, writeCdb, xdreadCdb, xdwriteCdb}
-use Rattle.callers.specs.Does.{blocks, resultIn, Does, Target}
+use Rattle.callers.specs.Does.{blocks, resultIn, Does, Target, next}
 use Rattle.callers.specs.Reads.{read-does, xdread-does}
 use Rattle.callers.specs.Writes.{write-does}
 use Rattle.callers.specs.Xdwrites.{XdwriteByte, retained-xors}
-use Rattle.callers.specs.Next.{next}
 
 module _ (m : List ℕ) (g : Geometry) (a : Came) (t : ℕ) (h : Target m g a t) (b n : ℕ) (s r : List ℕ) (w : Blocks m g (blocks t b n)) (e : Filled g (blocks t b n) s) where
   -- WRITE and then READ

@@ -14,8 +14,7 @@ use Rattle.geometry.specs.Stores.{stored-if, in-turn}
 use Rattle.drives.specs.Table.{driveOf}
 use Rattle.slots.specs.declared.Best.{Best}
 use Rattle.slots.specs.Record.{slotOf}
-use Rattle.slots.specs.Slots.{usedCount}
-use Rattle.slots.specs.Find.{emptySlot, better, bestOf, newestOf}
+use Rattle.slots.specs.Find.{better, bestOf, newestOf}
 use Rattle.slots.specs.Change.{fall, goes, ofDrive, drops, lowerOne, lowered, released, dropOne, droppedTo, dropped}
 use Rattle.command.specs.Command.{sourceOf}
 use Rattle.meaning.specs.Acts.{sourcesFrom, gathered}
@@ -34,14 +33,6 @@ bestTo x = record { top = x .top; found = x .found }
 -- ---- the image
 
 module _ (m : List ℕ) (h : old.Header) where
-  pub count-alike : usedCount m (geo h) ≡ old.usedCount m h
-  unfolding slotOf slotAt
-  count-alike = refl
-
-  pub empty-alike : emptySlot m (geo h) ≡ then.emptySlot m h
-  unfolding emptySlot slotOf slotAt
-  empty-alike = refl
-
   -- ---- the newest
 
   best-alike : (d b n : ℕ) → bestOf m (geo h) d b n ≡ bestTo (then.bestOf m h d b n)

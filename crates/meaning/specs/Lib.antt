@@ -1,5 +1,4 @@
 pub mod Acts
-pub mod Stores
 pub mod Allowed
 pub mod Lengths
 pub mod Sources

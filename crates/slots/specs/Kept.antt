@@ -71,7 +71,3 @@ module _ (s t : List ℕ) (g : Geometry) (p : Placed g) (e : slotBytes t g ≡ s
   pub kept-empty : emptySlot t g ≡ emptySlot s g
   unfolding emptySlot
   kept-empty = least-ext _ _ (g .s) (λ i l. ap (λ (r : Slot). not (isUsed r)) (kept-slot i l))
-
--- a write on the media leaves the slot that takes a result
-pub media-empty : (s : List ℕ) (g : Geometry) (at : ℕ) (ys : List ℕ) → Placed g → g .media ≤ at → emptySlot (put s at ys) g ≡ emptySlot s g
-media-empty s g at ys p l = kept-empty s (put s at ys) g p (put-outside s g at ys p (inr l))
