@@ -17,6 +17,7 @@ bench:
 	tools/native-lib
 	cargo run --quiet --offline --locked --release --manifest-path bench/Cargo.toml --target-dir target/cargo --bin rebuild -- 1.15
 	cargo run --quiet --offline --locked --release --manifest-path bench/Cargo.toml --target-dir target/cargo --bin small
+	cargo run --quiet --offline --locked --release --manifest-path bench/Cargo.toml --target-dir target/cargo --bin xdwrite
 
 # Only what is older than a source is made again, so that whoever installs needs no kit.
 target/native/libshelf_c.a: $(sources)
