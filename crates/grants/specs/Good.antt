@@ -19,7 +19,9 @@ use Rattle.sense.specs.declared.Answer.the-variants.{Good, WrongCount}
 use Rattle.sense.specs.Answers.{numberOf}
 use Rattle.command.specs.declared.Op.{Op}
 use Rattle.command.specs.declared.Command.{Command}
-use Rattle.command.specs.Command.{Layout, Sixteen, Ten, ByList, NoLayout, Limit, UpToM, NotToEnd, NoLimit, Moves, DataSent, ListSent, HandedOut, Exchanged, NoBytes, Works, OnBlocks, OnResult, Keeping, Always, WithEleven, Never, has, opOf, commandOf}
+use Rattle.command.specs.declared.Layout.{Layout}
+use Rattle.command.specs.declared.Layout.the-variants.{Sixteen, Ten, ByList, NoLayout}
+use Rattle.command.specs.Command.{Limit, UpToM, NotToEnd, NoLimit, Moves, DataSent, ListSent, HandedOut, Exchanged, NoBytes, Works, OnBlocks, OnResult, Keeping, Always, WithEleven, Never, has, opOf, commandOf}
 use Rattle.meaning.specs.declared.Fault.{Fault}
 use Rattle.meaning.specs.declared.Fault.the-variants.{Clear, Absent, Failed, Beyond}
 use Rattle.meaning.specs.declared.Seen.{Seen}
