@@ -13,7 +13,9 @@ use Rattle.drives.specs.Table.{to}
 use Rattle.command.specs.declared.Op.{Op}
 use Rattle.command.specs.declared.Op.the-variants.{XdWrite, XpWrite, XdRead, Rebuild, Regenerate, Read, Write, XdWriteTen, XdWriteRead}
 use Rattle.command.specs.declared.Command.{Command}
-use Rattle.command.specs.Command.{Layout, Ten, has, opOf, sizeBy, sizeOf, sixteenOf, tenOf, listedOf, commandBy, commandOf}
+use Rattle.command.specs.declared.Layout.{Layout}
+use Rattle.command.specs.declared.Layout.the-variants.{Ten}
+use Rattle.command.specs.Command.{has, opOf, sizeBy, sizeOf, sixteenOf, tenOf, listedOf, commandBy, commandOf}
 use Rattle.command.specs.Lossless.{cdbOf, bytes-by}
 use Rattle.meaning.specs.Checks.{isUnknown}
 

@@ -20,7 +20,9 @@ use Rattle.sense.specs.declared.Answer.the-variants.{Good, WrongCount}
 use Rattle.command.specs.declared.Op.{Op}
 use Rattle.command.specs.declared.Op.the-variants.{XdWrite, Rebuild, Regenerate}
 use Rattle.command.specs.declared.Command.{Command}
-use Rattle.command.specs.Command.{Layout, Ten, Limit, UpToM, NotToEnd, NoLimit, Moves, DataSent, ListSent, HandedOut, Exchanged, NoBytes, Works, OnBlocks, has, opOf, zeroBits, listBytes, intOf, sourceOf}
+use Rattle.command.specs.declared.Layout.{Layout}
+use Rattle.command.specs.declared.Layout.the-variants.{Ten}
+use Rattle.command.specs.Command.{Limit, UpToM, NotToEnd, NoLimit, Moves, DataSent, ListSent, HandedOut, Exchanged, NoBytes, Works, OnBlocks, has, opOf, zeroBits, listBytes, intOf, sourceOf}
 use Rattle.command.specs.Lossless.{cdbOf}
 use Rattle.meaning.specs.declared.Seen.{Seen}
 use Rattle.meaning.specs.declared.Seen.the-variants.{Dash, Cdb}

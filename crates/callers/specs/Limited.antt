@@ -16,7 +16,8 @@ use Rattle.drives.specs.declared.Came.{Came}
 use Rattle.sense.specs.declared.Answer.the-variants.{Good, WrongCount}
 use Rattle.command.specs.declared.Op.{Op}
 use Rattle.command.specs.declared.Command.{Command}
-use Rattle.command.specs.Command.{Ten, has, opOf, zeroBits}
+use Rattle.command.specs.declared.Layout.the-variants.{Ten}
+use Rattle.command.specs.Command.{has, opOf, zeroBits}
 use Rattle.command.specs.Lossless.{cdbOf}
 use Rattle.meaning.specs.declared.Seen.the-variants.{Dash, Cdb}
 use Rattle.meaning.specs.Checks.{Check, zeroFlags, zeroSix, zeroControl, aboveM, inRange}

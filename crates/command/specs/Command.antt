@@ -10,6 +10,8 @@ use Rattle.octets.specs.Number.{num, be}
 use Rattle.drives.specs.declared.Came.{Came}
 use Rattle.command.specs.declared.Op.{Op}
 use Rattle.command.specs.declared.Op.the-variants.{XdWrite, XpWrite, XdRead, Rebuild, Regenerate, Read, Write, XdWriteTen, XdWriteRead, Unknown}
+use Rattle.command.specs.declared.Layout.{Layout}
+use Rattle.command.specs.declared.Layout.the-variants.{Sixteen, Ten, ByList, NoLayout}
 use Rattle.command.specs.declared.Command.{Command}
 use Rattle.command.specs.declared.Source.{Source}
 
@@ -35,13 +37,6 @@ opOf code =
     (opOf1994 code))))
 
 -- ---- what an operation has
-
--- how its CDB is laid out: 16 bytes, 10 bytes, 10 bytes for a list; an unknown code has no length of its own
-pub data Layout : Type 0 where
-  Sixteen : Layout
-  Ten : Layout
-  ByList : Layout
-  NoLayout : Layout
 
 -- which bits of byte 1 are named: "XDWRITE byte 1: bit 6 Mirror, 5 NDisc, 4 DPO, 3 FUA, 2-1 Sec Ctl. REBUILD and REGENERATE byte 1: bit 2 Int
 -- Data, 1-0 Sec Ctl. XPWRITE, READ and WRITE: bit 4 DPO, 3 FUA."; A1: "bit 4 DPO and 3 FUA (not 52h), 2 DISABLE WRITE (50h, 53h)"

@@ -11,7 +11,9 @@ use Rattle.octets.specs.Number.{be, toBe, put-be}
 use Rattle.drives.specs.declared.Came.{Came}
 use Rattle.command.specs.declared.Op.{Op}
 use Rattle.command.specs.declared.Command.{Command}
-use Rattle.command.specs.Command.{Layout, Sixteen, Ten, ByList, NoLayout, has, sizeBy, sizeOf, sixteenOf, tenOf, listedOf, commandBy, commandOf}
+use Rattle.command.specs.declared.Layout.{Layout}
+use Rattle.command.specs.declared.Layout.the-variants.{Sixteen, Ten, ByList, NoLayout}
+use Rattle.command.specs.Command.{has, sizeBy, sizeOf, sixteenOf, tenOf, listedOf, commandBy, commandOf}
 
 -- a decoded command keeps its operation, and how it came
 by-kept : (l : Layout) (o : Op) (a : Came) (c : List ℕ) → (commandBy l o a c .op ≡ o) × (commandBy l o a c .came ≡ a)

@@ -8,7 +8,7 @@ ghost use mathlib.Core.Path.{_≡_};
 ghost use Prim.Native.Nat.{_+_, _*_, _<_, _≤_};
 ghost use lib.ListN.{length};
 ghost use Rattle.geometry.specs.Frame.{InRange};
-ghost use Rattle.command.specs.Command.{opOf1994, opOf, sizeOf, zeroBits, sixteenOf, tenOf, listedOf, commandOf, mirrorOf, ndiscOf, secOf, intOf, listSecOf, disableOf, Fits, ownOf, sourceOf, resolvedOf, listBytes};
+ghost use Rattle.command.specs.Command.{opOf1994, opOf, has, sizeOf, zeroBits, sixteenOf, tenOf, listedOf, commandOf, mirrorOf, ndiscOf, secOf, intOf, listSecOf, disableOf, Fits, ownOf, sourceOf, resolvedOf, listBytes};
 
 pub enum Op {
     XdWrite,
@@ -22,6 +22,14 @@ pub enum Op {
     XdWriteTen,
     XdWriteRead,
     Unknown,
+}
+
+// How a CDB is laid out: 16 bytes, 10 bytes, 10 bytes for a list; an unknown code has no layout.
+pub enum Layout {
+    Sixteen,
+    Ten,
+    ByList,
+    NoLayout,
 }
 
 // What a CDB says. A field that the command lacks is 0.
@@ -97,21 +105,32 @@ fn op_of_1994(code: usize) -> Op
     Op::Unknown
 }
 
+fn layout_of(op: Op) -> Layout
+    ensures { λ r. ⌜ r ≡ has op .layout ⌝ }
+{
+    match op {
+        Op::XdWrite => Layout::Sixteen,
+        Op::XpWrite => Layout::Ten,
+        Op::XdRead => Layout::Ten,
+        Op::Rebuild => Layout::ByList,
+        Op::Regenerate => Layout::ByList,
+        Op::Read => Layout::Ten,
+        Op::Write => Layout::Ten,
+        Op::XdWriteTen => Layout::Ten,
+        Op::XdWriteRead => Layout::Ten,
+        Op::Unknown => Layout::NoLayout,
+    }
+}
+
 // How many bytes a CDB has; 0 for an unknown code.
 pub fn size_of(op: Op) -> usize
     ensures { λ r. ⌜ r ≡ sizeOf op ⌝ }
 {
-    match op {
-        Op::XdWrite => 16,
-        Op::XpWrite => 10,
-        Op::XdRead => 10,
-        Op::Rebuild => 10,
-        Op::Regenerate => 10,
-        Op::Read => 10,
-        Op::Write => 10,
-        Op::XdWriteTen => 10,
-        Op::XdWriteRead => 10,
-        Op::Unknown => 0,
+    match layout_of(op) {
+        Layout::Sixteen => 16,
+        Layout::Ten => 10,
+        Layout::ByList => 10,
+        Layout::NoLayout => 0,
     }
 }
 
@@ -139,17 +158,11 @@ impl Command {
         requires { ⌜ (length (now cdb) ≡ sizeOf op) × (sizeOf op ≡ 0 → ⊥) ⌝ }
         ensures { λ r. ⌜ (r ≡ commandOf op came (now (cdb .entry))) × Fits r ⌝ }
     {
-        match op {
-            Op::XdWrite => Command::sixteen(op, came, cdb),
-            Op::XpWrite => Command::ten(op, came, cdb),
-            Op::XdRead => Command::ten(op, came, cdb),
-            Op::Rebuild => Command::listed(op, came, cdb),
-            Op::Regenerate => Command::listed(op, came, cdb),
-            Op::Read => Command::ten(op, came, cdb),
-            Op::Write => Command::ten(op, came, cdb),
-            Op::XdWriteTen => Command::ten(op, came, cdb),
-            Op::XdWriteRead => Command::ten(op, came, cdb),
-            Op::Unknown => Command::ten(op, came, cdb),
+        match layout_of(op) {
+            Layout::Sixteen => Command::sixteen(op, came, cdb),
+            Layout::Ten => Command::ten(op, came, cdb),
+            Layout::ByList => Command::listed(op, came, cdb),
+            Layout::NoLayout => Command::ten(op, came, cdb),
         }
     }
 

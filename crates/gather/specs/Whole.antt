@@ -60,7 +60,7 @@ module _ (s : List ℕ) (g : Geometry) (sent : List ℕ) (j : Job) (r : Ready s 
 
   long : length (gathered s g sent (j .count) (j .sum)) ≡ size g j
   long =
-      let n = r .counted in
+      let same = r .counted in
       gathered-long s g sent (j .count) (j .sum) (omega (arith, r .some-source))
       (λ e l. length-part s (startOf s g (j .sum .came) (sourceOf sent e)) (size g j) (r .inside e (omega arith))) (λ q. omega (arith, r .exact q))
 

@@ -4,7 +4,7 @@ use native.Mathlib.Omega.{arith}
 use mathlib.Core.Bool.{Bool, true, false, not, _&&_, true≢false}
 use mathlib.Core.List.{List}
 use mathlib.Core.Path.{_≡_, refl, sym}
-use lib.Dec.{eqb}
+use lib.Dec.{ltb, eqb}
 use lib.ListN.{length, getD}
 use borrow.Author.Tests.{ltb-false, eqb-true, eqb-false, not-false}
 use Rattle.octets.specs.Number.{be}
@@ -24,7 +24,7 @@ use Rattle.sense.specs.declared.Answer.the-variants.{Good}
 use Rattle.command.specs.declared.Op.{Op}
 use Rattle.command.specs.declared.Op.the-variants.{XdWrite, XpWrite, XdRead, Rebuild, Regenerate, Read, Write, XdWriteTen, XdWriteRead, Unknown}
 use Rattle.command.specs.declared.Command.{Command}
-use Rattle.command.specs.Command.{Ten, UpToM, NotToEnd, mirrorOf, ndiscOf, secOf, intOf, ownOf, resolvedOf, resolvedCount, listBytes}
+use Rattle.command.specs.Command.{UpToM, NotToEnd, mirrorOf, ndiscOf, secOf, intOf, ownOf, resolvedOf, resolvedCount, listBytes}
 use Rattle.command.specs.Length.{resolved-some, resolved-same}
 use Rattle.command.specs.Sent.{sent-exact}
 use Rattle.meaning.specs.declared.Span.{Span}
@@ -34,7 +34,7 @@ use Rattle.meaning.specs.declared.Seen.{Seen}
 use Rattle.meaning.specs.declared.Fault.the-variants.{Clear}
 use Rattle.meaning.specs.declared.Decision.the-variants.{Stop, Go}
 use Rattle.meaning.specs.Sources.{firstBad}
-use Rattle.meaning.specs.Checks.{isNothing, isUnknown, limits, ownSecond, idleAt, rangeAt, acts, resolved, spanOf, secondOf, sumOf}
+use Rattle.meaning.specs.Checks.{isNothing, isUnknown, limits, ownSecond, acts, resolved, spanOf, secondOf, sumOf}
 use Rattle.meaning.specs.Allowed.{Blocks, Held, Free, empty-free, Sourced, Allowed}
 use Rattle.grants.specs.Passed.{not-zero, with-it, without-it, found, elsewhere, clear, Passed, sixteen-fields, ten-limit, list-limit, ListRead, list-read}
 use Rattle.grants.specs.Entries.{entries}
@@ -64,21 +64,21 @@ module _ (m : List ℕ) (g : Geometry) (t : ℕ) (s : List ℕ) (r : ℕ) (v : S
   free e = empty-free m g _ (found (emptySlot m g) e)
 
   -- of a command that names its blocks: they are there, and not none
-  named : AllPass (idleAt Ten k) → AllPass (rangeAt Ten g k s) → Blocks m g (spanOf t k)
-  named i w = own k (not-zero _ (i .0)) (ltb-false _ _ (w .0))
+  named : eqb (k .count) 0 ≡ false → ltb (g .b) (k .block .0 + k .count) ≡ false → Blocks m g (spanOf t k)
+  named i w = own k (not-zero _ i) (ltb-false _ _ w)
 
   -- the act x
   does : (o : Op) (x : Act) → acts o m g t k s ≡ Go x Good → Allowed m g s r x → Grants o m g t k s r
   does o x e h = record { act = x; goes = e; allowed = h }
 
   of-read : Passed Read m g t k s r → Grants Read m g t k s r
-  of-read p = does Read _ refl (named (p .idle-pass) (p .range-pass), ltb-false _ _ (p .room-pass .0))
+  of-read p = does Read _ refl (named (p .idle-pass .0) (p .range-pass .0), ltb-false _ _ (p .room-pass .0))
 
   of-write : Passed Write m g t k s r → Grants Write m g t k s r
-  of-write p = does Write _ refl (named (p .idle-pass) (p .range-pass), p .sent)
+  of-write p = does Write _ refl (named (p .idle-pass .0) (p .range-pass .0), p .sent)
 
   of-xpwrite : Passed XpWrite m g t k s r → Grants XpWrite m g t k s r
-  of-xpwrite p = does XpWrite _ refl (named (p .idle-pass) (p .range-pass), p .sent)
+  of-xpwrite p = does XpWrite _ refl (named (p .idle-pass .0) (p .range-pass .0), p .sent)
 
   of-xdread : Passed XdRead m g t k s r → Grants XdRead m g t k s r
   of-xdread p =
@@ -95,14 +95,14 @@ module _ (m : List ℕ) (g : Geometry) (t : ℕ) (s : List ℕ) (r : ℕ) (v : S
       pick : (b : Bool) → eqb (secOf k) 3 ≡ b → Grants XdWrite m g t k s r
       pick true q =
           does XdWrite (Retain (spanOf t k) (index (emptySlot m g)) (mirrorOf k) (ndiscOf k)) (rw q)
-          (named (p .idle-pass) (p .range-pass), p .sent, ltb-false _ _ (f .0 .0), free (with-it (eqb (secOf k) 3) _ q (p .busy-pass .0)))
+          (named (p .idle-pass .0) (p .range-pass .0), p .sent, ltb-false _ _ (f .0 .0), free (with-it (eqb (secOf k) 3) _ q (p .busy-pass .0)))
       pick false q =
           let unless : (z : Bool) → (not (eqb (secOf k) 3) && z) ≡ false → z ≡ false = (λ z h. without-it (eqb (secOf k) 3) z q h) in
           let there-is = found (secondaryOf m g (k .came) (k .second .0)) (unless _ (p .nested-pass .0)) in
           let there : Range g (index (secondaryOf m g (k .came) (k .second .0))) (k .spot .0) (k .count) =
           record { drive-in = drive-inside m g _ _ there-is .0; range-in = ltb-false _ _ (unless _ (p .nested-pass .1 .1 .0)) } in
           does XdWrite (Couple (spanOf t k) (secondOf (secondaryOf m g (k .came) (k .second .0)) k) (mirrorOf k)) (rw q) (
-            named (p .idle-pass) (p .range-pass),
+            named (p .idle-pass .0) (p .range-pass .0),
             record { range = there; present = unless _ (p .nested-pass .1 .0); some = not-zero _ (p .idle-pass .0) },
             refl,
             (λ h. elsewhere _ _ t there-is (unless _ (f .1 .0)) (sym h)),
@@ -112,10 +112,10 @@ module _ (m : List ℕ) (g : Geometry) (t : ℕ) (s : List ℕ) (r : ℕ) (v : S
   of-xdwrite-ten : Passed XdWriteTen m g t k s r → Grants XdWriteTen m g t k s r
   of-xdwrite-ten p =
       does XdWriteTen _ refl
-      (named (p .idle-pass) (p .range-pass), p .sent, ltb-false _ _ (ten-limit UpToM XdWriteTen m g t k (p .fields-pass) .0), free (p .busy-pass .0))
+      (named (p .idle-pass .0) (p .range-pass .0), p .sent, ltb-false _ _ (ten-limit UpToM XdWriteTen m g t k (p .fields-pass) .0), free (p .busy-pass .0))
 
   of-xdwriteread : Passed XdWriteRead m g t k s r → Grants XdWriteRead m g t k s r
-  of-xdwriteread p = does XdWriteRead _ refl (named (p .idle-pass) (p .range-pass), p .sent, ltb-false _ _ (p .room-pass .0))
+  of-xdwriteread p = does XdWriteRead _ refl (named (p .idle-pass .0) (p .range-pass .0), p .sent, ltb-false _ _ (p .room-pass .0))
 
   -- the list and what follows it
   sourced : length s ≡ listBytes k (g .l) → eqb (k .list) 0 ≡ false → ListRead m g t k s → firstBad m g (k .came) s (resolved g k s .count) 0 (getD s 0 0) ≡ Clear

@@ -16,7 +16,8 @@ use Rattle.drives.specs.declared.Came.{Came}
 use Rattle.sense.specs.declared.Answer.the-variants.{Good, WrongCount}
 use Rattle.command.specs.declared.Op.{Op}
 use Rattle.command.specs.declared.Command.{Command}
-use Rattle.command.specs.Command.{Sixteen, Ten, ByList, Limit, commandOf}
+use Rattle.command.specs.declared.Layout.the-variants.{Sixteen, Ten, ByList}
+use Rattle.command.specs.Command.{Limit, commandOf}
 use Rattle.meaning.specs.declared.Fault.{Fault}
 use Rattle.meaning.specs.declared.Fault.the-variants.{Clear, Absent, Failed, Beyond}
 use Rattle.meaning.specs.declared.Seen.the-variants.{Dash, Cdb}

@@ -38,7 +38,8 @@ pub fn own_entry(image: &[u8], g: Geometry, came: Came, sent: &[u8], n: usize, t
 }
 
 // What is wrong with the first of n entries that fails: its address is in no entry of the table, or
-// the drive has failed, or its `count` blocks pass the drive's end.
+// the drive has failed, or its `count` blocks pass the drive's end. The search is that of `find_source`, made
+// here for the exit from it.
 pub fn first_bad(
     image: &[u8],
     g: Geometry,

@@ -24,7 +24,9 @@ use Rattle.sense.specs.declared.Answer.the-variants.{Good, Busy, BadImage, NoTa
 use Rattle.command.specs.declared.Op.{Op}
 use Rattle.command.specs.declared.Op.the-variants.{XdWrite, XpWrite, XdRead, Rebuild, Regenerate, Read, Write, XdWriteTen, XdWriteRead, Unknown}
 use Rattle.command.specs.declared.Command.{Command}
-use Rattle.command.specs.Command.{Layout, Sixteen, Ten, ByList, NoLayout, Limit, UpToM, NotToEnd, NoLimit, Moves, DataSent, ListSent, HandedOut, Exchanged, NoBytes, Works, OnBlocks, OnResult, Keeping, Always, WithEleven, Never, has, opOf, sizeOf, zeroBits, commandOf, mirrorOf, ndiscOf, secOf, intOf, listSecOf, disableOf, ownOf, resolvedOf, listBytes}
+use Rattle.command.specs.declared.Layout.{Layout}
+use Rattle.command.specs.declared.Layout.the-variants.{Sixteen, Ten, ByList, NoLayout}
+use Rattle.command.specs.Command.{Limit, UpToM, NotToEnd, NoLimit, Moves, DataSent, ListSent, HandedOut, Exchanged, NoBytes, Works, OnBlocks, OnResult, Keeping, Always, WithEleven, Never, has, opOf, sizeOf, zeroBits, commandOf, mirrorOf, ndiscOf, secOf, intOf, listSecOf, disableOf, ownOf, resolvedOf, listBytes}
 use Rattle.meaning.specs.declared.Span.{Span}
 use Rattle.meaning.specs.declared.Summing.{Summing}
 use Rattle.meaning.specs.declared.Act.the-variants.{Read as ToRead, Write as ToWrite, XpWrite as ToXpWrite, XdRead as ToXdRead, Couple, Retain, Rebuild as ToRebuild, Regenerate as ToRegenerate, XdWriteRead as ToXdWriteRead}
