@@ -7,6 +7,7 @@ use mathlib.Core.List.{List, [], _∷_}
 use Rattle.octets.specs.Part.{part}
 use Rattle.octets.specs.Put.{put, length-put}
 use Rattle.octets.specs.PutPut.{part-put}
+use Rattle.octets.specs.Xor.{_⊻_, xor-nil}
 use Rattle.folds.specs.Cases.{same, apart}
 use Rattle.folds.specs.Each.{EachIs, each-implies}
 use Rattle.geometry.specs.declared.Geometry.{Geometry}
@@ -17,6 +18,7 @@ use Rattle.geometry.specs.Places.{Range, range-room, place-on, block-upto, plac
 use Rattle.drives.specs.Table.{stateOf, addressOf}
 use Rattle.drives.specs.Front.{SameFront, state-same, address-same}
 use Rattle.results.specs.Results.{Result, results}
+use Rattle.sums.specs.Row.{rowSum}
 use Rattle.image.specs.Shelf.{Shelf, shelf-frame}
 use Rattle.meaning.specs.declared.Span.{Span}
 use Rattle.meaning.specs.Acts.{spanAt, blocksOf, Over, Effect, storesIn}
@@ -24,6 +26,7 @@ use Rattle.demands_one_two.specs.Effects.{written, Covers, Distinct, Fine}
 use Rattle.demands_one_two.specs.Valid.{effect-shelf}
 use Rattle.demands_one_two.specs.Beside.{OffSpan, off-slots, front-beside, written-beside, effect-media, effect-beside}
 use Rattle.demands_one_two.specs.Retained.{afterwards, effect-results}
+use Rattle.demands_one_two.specs.Sums.{moved, effect-sum}
 
 -- blocks of a drive, all of them its own
 abbrev pub InDrive : Geometry → Span → Type 0
@@ -33,8 +36,8 @@ InDrive g x = Range g (x .drive) (x .block .0) (x .count)
 abbrev pub Elsewhere : Span → Span → Type 0
 Elsewhere x y = (x .drive ≡ y .drive → ⊥) ⊎ ((x .block .0 + x .count ≤ y .block .0) ⊎ (y .block .0 + y .count ≤ x .block .0))
 
--- image m became t: its drives have these states, the blocks ws were written, the results rs are retained, and no other block and no
--- address has changed
+-- image m became t: its drives have these states, the blocks ws were written and moved the rows' sums, the results rs are retained, and no
+-- other block and no address has changed
 pub record After (m t : List ℕ) (g : Geometry) (states : ℕ → ℕ) (ws : List Over) (rs : List Result) : Type 0 where
   pub shelf : Shelf t g
   pub state-is : (d : ℕ) → d < g .d → stateOf t g d ≡ states d
@@ -42,10 +45,11 @@ pub record After (m t : List ℕ) (g : Geometry) (states : ℕ → ℕ) (ws : Li
   pub wrote : EachIs (λ w. blocksOf t g (w .blocks) ≡ w .bytes) ws
   pub kept : (x : Span) → InDrive g x → EachIs (λ w. Elsewhere x (w .blocks)) ws → blocksOf t g x ≡ blocksOf m g x
   pub retained : results t g ≡ rs
+  pub sum-is : (r : ℕ) → r < g .b → rowSum t g r ≡ rowSum m g r ⊻ moved m g ws r
 
 -- nothing has changed
 pub after-none : (m : List ℕ) (g : Geometry) → Shelf m g → After m m g (stateOf m g) [] (results m g)
-after-none m g h = record { shelf = h; state-is = λ d l. refl; address-kept = λ d l. refl; wrote = tt; kept = λ x r o. refl; retained = refl }
+after-none m g h = record { shelf = h; state-is = λ d l. refl; address-kept = λ d l. refl; wrote = tt; kept = λ x r o. refl; retained = refl; sum-is = λ r l. sym (xor-nil (rowSum m g r)) }
 
 -- ---- an effect leaves that
 
@@ -111,4 +115,5 @@ module _ (m : List ℕ) (g : Geometry) (h : Shelf m g) (room : ℕ) (e : Effect)
             (written-wrote g m (shelf-frame m g h) (e .writes) (f .covers) (f .distinct));
         kept = λ x r o. medium x ∙ written-beside g (spanAt g x) (x .count * g .l) m (e .writes) (f .covers) (off-all g x r (e .writes) (f .covers) o);
         retained = effect-results m g h room e f;
+        sum-is = effect-sum m g h room e f;
       }

@@ -1,5 +1,5 @@
 -- A reset and a marking for callers: when they are GOOD, and what they leave, in words of results, states and blocks.
-use Prim.Native.Nat.{ℕ, _*_, _≤_, _<_}
+use Prim.Native.Nat.{ℕ, _≤_, _<_}
 use native.Mathlib.Omega.{arith}
 use mathlib.Core.Bool.{Bool, not, cond}
 use lib.Dec.{eqb}
@@ -13,7 +13,8 @@ use Rattle.folds.specs.declared.Found.the-variants.{At}
 use Rattle.folds.specs.Least.{index}
 use Rattle.rules.specs.Rule.{AllPass, none-decides}
 use Rattle.geometry.specs.declared.Geometry.{Geometry}
-use Rattle.geometry.specs.Header.{geometryOf, slotSize}
+use Rattle.octets.specs.Xor.{xor-nil}
+use Rattle.geometry.specs.Header.{geometryOf}
 use Rattle.geometry.specs.Frame.{Placed}
 use Rattle.geometry.specs.Outside.{outside-away}
 use Rattle.geometry.specs.Places.{place-after-media}
@@ -26,13 +27,15 @@ use Rattle.slots.specs.Change.{dropped}
 use Rattle.results.specs.Lists.{keeping}
 use Rattle.results.specs.Results.{results}
 use Rattle.results.specs.Drop.{ofOther, drop-results, drop-part}
-use Rattle.results.specs.Kept.{kept-results}
+use Rattle.sums.specs.Row.{rowSum}
 use Rattle.image.specs.Shelf.{Shelf, shelf-valid, shelf-frame}
 use Rattle.sense.specs.declared.Answer.the-variants.{Good}
 use Rattle.meaning.specs.Checks.{isNothing, calls}
 use Rattle.meaning.specs.Step.{answered, untouched, resetAnswer, resetImage, markCalls, markAnswer, markImage}
 use Rattle.meaning.specs.Acts.{spanAt, blocksOf}
 use Rattle.callers.specs.After.{After}
+use Rattle.demands_one_two.specs.Retained.{marked-results}
+use Rattle.demands_one_two.specs.Sums.{dropped-sum, marked-sum}
 use Rattle.demands_one_two.specs.Calls.{reset-shelf, reset-front, mark-shelf}
 
 -- a call that came as a was made to drive t of the valid image m, present or failed
@@ -78,6 +81,7 @@ module _ (m : List ℕ) (g : Geometry) (a : Came) (t : ℕ) (h : Names m g a t) 
             ap (λ (y : List ℕ). blocksOf y g x) reset-is
             ∙ drop-part m g t (spanAt g x) _ (outside-away g (spanAt g x) _ p (inr (place-after-media g (x .drive) (x .block .0))));
         retained = ap (λ (x : List ℕ). results x g) reset-is ∙ drop-results m g (shelf-frame m g (h .shelf)) (h .shelf .slots-ok) t;
+        sum-is = λ r l. ap (λ (x : List ℕ). rowSum x g r) reset-is ∙ dropped-sum m g (h .shelf) r t ∙ sym (xor-nil (rowSum m g r));
       }
 
   -- ---- "Marking writes the state byte alone, and retained results stay."
@@ -113,6 +117,6 @@ module _ (m : List ℕ) (g : Geometry) (a : Came) (t : ℕ) (h : Names m g a t) 
           kept = λ x r o.
               ap (λ (y : List ℕ). blocksOf y g x) mark-is
               ∙ part-marked m g t state p inside (spanAt g x) _ (omega (arith, place-after-media g (x .drive) (x .block .0), p .slots-end));
-          retained = ap (λ (x : List ℕ). results x g) mark-is
-              ∙ kept-results m (marked m g t state) g p (part-marked m g t state p inside (g .slots) (g .s * slotSize g) (omega arith)) (h .shelf .slots-ok);
+          retained = ap (λ (x : List ℕ). results x g) mark-is ∙ marked-results m g (h .shelf) t state inside;
+          sum-is = λ r l. ap (λ (x : List ℕ). rowSum x g r) mark-is ∙ marked-sum m g (h .shelf) r t state inside ∙ sym (xor-nil (rowSum m g r));
         }

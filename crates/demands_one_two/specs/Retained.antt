@@ -2,10 +2,13 @@
 use mathlib.Core.Path.{_≡_, sym, ap, subst, _∙_}
 use mathlib.Core.List.{List, _∷_}
 use mathlib.Core.Option.{some}
-use Prim.Native.Nat.{ℕ, _*_}
+use Prim.Native.Nat.{ℕ, _*_, _<_}
+use native.Mathlib.Nat.{le-refl}
 use Rattle.octets.specs.Part.{part}
 use Rattle.geometry.specs.declared.Geometry.{Geometry}
-use Rattle.geometry.specs.Header.{dataAt}
+use Rattle.geometry.specs.Header.{dataAt, slotSize}
+use Rattle.drives.specs.Table.{marked}
+use Rattle.drives.specs.Marked.{part-marked}
 use Rattle.geometry.specs.Stores.{stored}
 use Rattle.slots.specs.Kept.{kept-empty}
 use Rattle.results.specs.First.{firstOf, sansFirst}
@@ -54,6 +57,12 @@ module _ (m : List ℕ) (g : Geometry) (h : Shelf m g) where
 
   pub results-after : (s : List ℕ) (room : ℕ) (act : Act) → Allowed m g s room act → results (leaves m g s act) g ≡ afterwards (effectOf m g s act .change) (results m g)
   results-after s room act a = effect-results room (effectOf m g s act) (fine m g (shelf-frame m g h) s room act a)
+
+  -- and so does a marking
+  pub marked-results : (i state : ℕ) → i < g .d → results (marked m g i state) g ≡ results m g
+  marked-results i state l =
+      let p = shelf-frame m g h .placed in
+      kept-results m (marked m g i state) g p (part-marked m g i state p l (g .slots) (g .s * slotSize g) (le-refl (g .slots))) (h .slots-ok)
 
   -- XDREAD hands out the newest result at its drive and block, whole
   pub newest-handed : (s : List ℕ) (room : ℕ) (x : Span) (i : ℕ) → Allowed m g s room (XdRead x i)

@@ -2,8 +2,9 @@
 -- And every step keeps a valid image valid.
 use mathlib.Core.Path.{_≡_, refl, sym, ap, subst, _∙_}
 use mathlib.Core.List.{List}
-use Prim.Native.Nat.{ℕ, _≤_}
+use Prim.Native.Nat.{ℕ, _≤_, _<_}
 use native.Mathlib.Omega.{arith}
+use lib.Dec.{lit<}
 use lib.ListN.{length}
 use Rattle.octets.specs.Part.{part}
 use Rattle.octets.specs.PutPut.{part-put-above}
@@ -20,6 +21,7 @@ use Rattle.meaning.specs.declared.Decision.the-variants.{Stop, Go}
 use Rattle.meaning.specs.Acts.{effectOf, leaves, hands}
 use Rattle.meaning.specs.Step.{decided, imageAfter, roomAfter, outcomeAfter, stepImage, stepRoom, stepOutcome}
 use Rattle.grants.specs.Granted.{granted, allowed-at}
+use Rattle.demands_one_two.specs.Fine.{fine}
 use Rattle.demands_one_two.specs.Valid.{leaves-shelf}
 use Rattle.demands_one_two.specs.Beside.{Beside, front-beside, leaves-beside}
 
@@ -69,3 +71,14 @@ module _ (m : List ℕ) (a : Came) (c s r : List ℕ) where
       pick : (d : Decision) → outcomeAfter d m s .count ≤ i → part (roomAfter d m s r) i n ≡ part r i n
       pick (Stop k w x) l = refl
       pick (Go act x) l = part-put-above r 0 (hands m (geometryOf m) s act) i n (omega arith)
+
+  -- the byte count fits 32 bits, as the C interface hands it over
+  pub count-small : stepOutcome m a c s r .count < 4294967296
+  unfolding stepOutcome
+  count-small = pick (decided m a c s r) refl
+    where
+      pick : (d : Decision) → decided m a c s r ≡ d → outcomeAfter d m s .count < 4294967296
+      pick (Stop n w x) e = lit< tt
+      pick (Go act x) e =
+          let f = granted m a c s (length r) act x e in
+          fine m (geometryOf m) (shelf-frame m (geometryOf m) (f .valid)) s (length r) act (f .allowed) .small

@@ -1,29 +1,18 @@
 -- What one call does: the unread lines stay the retained results, and a row's sum stays what it was but for what is owed.
-use Prim.Native.Nat.{ℕ, _*_, _<_}
-use native.Mathlib.Nat.{le-refl}
-use native.Mathlib.Omega.{arith}
+use Prim.Native.Nat.{ℕ, _<_}
 use mathlib.Core.Path.{_≡_, refl, sym, ap, ap₂, subst, _∙_}
-use mathlib.Core.Logic.{inl, inr}
 use mathlib.Core.List.{List}
 use Rattle.octets.specs.Xor.{_⊻_}
 use Rattle.rules.specs.Rule.{first-both, first-cases}
 use Rattle.geometry.specs.declared.Geometry.{Geometry}
-use Rattle.geometry.specs.Header.{place, slotSize}
-use Rattle.geometry.specs.Frame.{Placed}
-use Rattle.geometry.specs.Places.{place-after-media}
-use Rattle.geometry.specs.Outside.{outside-away}
 use Rattle.drives.specs.declared.Came.{Came}
 use Rattle.drives.specs.Table.{marked}
-use Rattle.drives.specs.Marked.{part-marked}
 use Rattle.slots.specs.Change.{dropped}
 use Rattle.results.specs.Lists.{keeping}
 use Rattle.results.specs.Results.{results}
-use Rattle.results.specs.Kept.{kept-results}
-use Rattle.results.specs.Drop.{ofOther, drop-part, drop-results}
+use Rattle.results.specs.Drop.{ofOther, drop-results}
 use Rattle.image.specs.Shelf.{Shelf, shelf-frame}
 use Rattle.sums.specs.Row.{rowSum}
-use Rattle.sums.specs.Counts.{same-counts, marked-counts}
-use Rattle.sums.specs.Change.{sum-same}
 use Rattle.sense.specs.declared.Answer.{Answer}
 use Rattle.meaning.specs.declared.Act.{Act}
 use Rattle.meaning.specs.declared.Decision.{Decision}
@@ -33,6 +22,8 @@ use Rattle.meaning.specs.Allowed.{Allowed}
 use Rattle.meaning.specs.Checks.{calls}
 use Rattle.meaning.specs.Calls.{reset}
 use Rattle.meaning.specs.Step.{imageAfter, untouched, target, resetImage, markCalls, markImage}
+use Rattle.demands_one_two.specs.Retained.{marked-results}
+use Rattle.demands_one_two.specs.Sums.{dropped-sum, marked-sum}
 use Rattle.demands_one_two.specs.Calls.{target-in}
 use Rattle.parity.specs.Ledger.{Dropped, Line, become, onEach, waitsOn, noted, notedBy, notedCall, FairBy}
 use Rattle.parity.specs.Owed.{owed, owed-dropped}
@@ -48,9 +39,6 @@ abbrev pub SumKept : Geometry → List ℕ → List Line → List ℕ → List L
 SumKept g m es t fs = (r : ℕ) → r < g .b → rowSum t g r ⊻ owed g r fs ≡ rowSum m g r ⊻ owed g r es
 
 module _ (m : List ℕ) (g : Geometry) (h : Shelf m g) (es : List Line) where
-  p : Placed g
-  p = shelf-frame m g h .placed
-
   -- ---- a command
 
   module _ (s : List ℕ) (room : ℕ) where
@@ -76,12 +64,7 @@ module _ (m : List ℕ) (g : Geometry) (h : Shelf m g) (es : List Line) where
       waiting-dropped drive es ∙ ap (keeping (ofOther drive)) e ∙ sym (drop-results m g (shelf-frame m g h) (h .slots-ok) drive)
 
   reset-sum : (drive : ℕ) → SumKept g m es (dropped m g drive) (onEach (waitsOn drive) (become Dropped) es)
-  reset-sum drive r l =
-      ap₂ _⊻_
-      (sum-same m (dropped m g drive) g r
-      (same-counts (dropped m g drive) m g (drop-part m g drive 0 (g .slots) (outside-away g 0 (g .slots) p (inl (omega arith)))))
-      (λ d ld. drop-part m g drive (place g d r) (g .l) (outside-away g (place g d r) (g .l) p (inr (place-after-media g d r)))))
-      (owed-dropped g r drive es)
+  reset-sum drive r l = ap₂ _⊻_ (dropped-sum m g h r drive) (owed-dropped g r drive es)
 
   pub resets-tallies : (a : Came) → Tallies g m es → Tallies g (resetImage m a) (notedCall (reset a) m es)
   unfolding resetImage
@@ -100,14 +83,10 @@ module _ (m : List ℕ) (g : Geometry) (h : Shelf m g) (es : List Line) where
   -- ---- a marking
 
   mark-tallies : (i state : ℕ) → i < g .d → Tallies g m es → Tallies g (marked m g i state) es
-  mark-tallies i state l e =
-      e ∙ sym (kept-results m (marked m g i state) g p (part-marked m g i state p l (g .slots) (g .s * slotSize g) (le-refl (g .slots))) (h .slots-ok))
+  mark-tallies i state l e = e ∙ sym (marked-results m g h i state l)
 
   mark-sum : (i state : ℕ) → i < g .d → SumKept g m es (marked m g i state) es
-  mark-sum i state l r lr =
-      ap (λ (o : List ℕ). o ⊻ owed g r es)
-      (sum-same m (marked m g i state) g r (marked-counts m g i state)
-      (λ d ld. part-marked m g i state p l (place g d r) (g .l) (omega (arith, place-after-media g d r, p .slots-end))))
+  mark-sum i state l r lr = ap (λ (o : List ℕ). o ⊻ owed g r es) (marked-sum m g h r i state l)
 
   pub marks-tallies : (a : Came) (state : ℕ) → Tallies g m es → Tallies g (markImage m a state) es
   unfolding markImage

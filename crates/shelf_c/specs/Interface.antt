@@ -21,9 +21,8 @@ use Rattle.meaning.specs.declared.Decision.{Decision}
 use Rattle.meaning.specs.declared.Decision.the-variants.{Stop, Go}
 use Rattle.meaning.specs.Step.{decided, outcomeAfter, stepImage, stepRoom, stepOutcome, resetAnswer, resetImage, markAnswer, markImage}
 use Rattle.meaning.specs.Stepped.{Stepped, Reset, Marked}
-use Rattle.demands_one_two.specs.Step.{refused-keeps}
+use Rattle.demands_one_two.specs.Step.{refused-keeps, count-small}
 use Rattle.demands_one_two.specs.Calls.{reset-keeps, mark-keeps}
-use Rattle.demands_one_two.specs.Count.{count-small}
 
 -- the sense room n is too short
 abbrev pub short : List ℕ → Bool
