@@ -9,11 +9,12 @@ use mathlib.Core.List.{List, [], _∷_, _++_, map}
 use lib.Dec.{eqb}
 use lib.ListN.{length, getD, replicate}
 use Rattle.octets.specs.Part.{part}
+use Rattle.octets.specs.Put.{put}
 use Rattle.octets.specs.Xor.{_⊻_, xor-regroups, xor-itself}
 use Rattle.octets.specs.Operands.{xorAll}
 use Rattle.folds.specs.Each.{EachIs}
 use Rattle.geometry.specs.declared.Geometry.{Geometry}
-use Rattle.geometry.specs.Header.{blocksAt}
+use Rattle.geometry.specs.Header.{place, blocksAt}
 use Rattle.drives.specs.declared.Came.{Came}
 use Rattle.image.specs.Shelf.{shelf-frame}
 use Rattle.command.specs.declared.Source.{Source}
@@ -21,8 +22,10 @@ use Rattle.command.specs.Command.{sourceOf}
 use Rattle.meaning.specs.declared.Act.the-variants.{Rebuild, Regenerate}
 use Rattle.meaning.specs.declared.Decision.the-variants.{Go}
 use Rattle.sense.specs.declared.Answer.the-variants.{Good}
+use Rattle.sense.specs.Sense.{outcomeOf}
 use Rattle.meaning.specs.Acts.{over, namedBlocks, sourcesFrom, gathered}
 use Rattle.meaning.specs.Step.{decided}
+use Rattle.meaning.specs.Stepped.{Stepped}
 use Rattle.demands_one_two.specs.Effects.{resultIn}
 use Rattle.results.specs.Results.{results}
 use Rattle.meaning.specs.Allowed.{Blocks, Limited, Sourced}
@@ -32,7 +35,7 @@ use Rattle.callers.specs.Does.{summing, blocks, Does, Target}
 use Rattle.callers.specs.Sources.{Names, read-as, list-sourced}
 use Rattle.callers.specs.Listed.{ListByte, HowLong}
 use Rattle.callers.specs.Rebuilds.{rebuild-goes, regenerate-goes}
-use Rattle.callers.specs.Goes.{does}
+use Rattle.callers.specs.Goes.{exactly, does}
 use Rattle.callers.specs.Results.{free-left}
 
 -- the operands: the sources' blocks, and with Int Data the data d
@@ -65,7 +68,7 @@ module _ (m : List ℕ) (g : Geometry) (a : Came) (t : ℕ) (h : Target m g a t)
   data-is true e = refl
   data-is false e = ap (λ (x : List ℕ). x ∷ []) (ap (part (listOf b es d) (8 + 8 * length es)) (sym e) ∙ list-data b es d)
 
-  pub gathered-is : gathered m g (listOf b es d) n (summing a int) ≡ xorAll (operands m g a n es int d)
+  gathered-is : gathered m g (listOf b es d) n (summing a int) ≡ xorAll (operands m g a n es int d)
   unfolding gathered
   gathered-is =
       ap₂ (λ (xs ys : List (List ℕ)). xorAll (xs ++ ys))
@@ -80,10 +83,16 @@ module _ (m : List ℕ) (g : Geometry) (a : Came) (t : ℕ) (h : Target m g a t)
     sourced : Sourced m g (blocks t b n) (summing a int) (listOf b es d)
     sourced = list-sourced m g (h .shelf) a (blocks t b n) b es d each int one long
 
-    -- REBUILD: the XOR of the operands is written to the target
-    pub rebuild-listed : (count : ℕ) → HowLong (g .b) b n count → (int ≡ 0) ⊎ (count ≡ n)
+    rebuild-listed : (count : ℕ) → HowLong (g .b) b n count → (int ≡ 0) ⊎ (count ≡ n)
         → decided m a (rebuildCdb flags count (length es)) (listOf b es d) r ≡ Go (Rebuild (blocks t b n) (summing a int)) Good
     rebuild-listed = rebuild-goes m g a t h b n (length es) flags int (listOf b es d) r z (list-headed b es d small) few w sourced
+
+    -- REBUILD: the XOR of the operands is written to the target, and not another byte
+    pub rebuild-exactly : (count : ℕ) → HowLong (g .b) b n count → (int ≡ 0) ⊎ (count ≡ n)
+        → Stepped m a (rebuildCdb flags count (length es)) (listOf b es d) r (outcomeOf Good 0) (put m (place g t b) (xorAll (operands m g a n es int d))) (put r 0 [])
+    rebuild-exactly count how with =
+        subst (λ (x : List ℕ). Stepped m a (rebuildCdb flags count (length es)) (listOf b es d) r (outcomeOf Good 0) (put m (place g t b) x) (put r 0 [])) gathered-is
+        (exactly m g (h .shelf) a (rebuildCdb flags count (length es)) (listOf b es d) r (Rebuild (blocks t b n) (summing a int)) (rebuild-listed count how with))
 
     pub rebuild-does : (count : ℕ) → HowLong (g .b) b n count → (int ≡ 0) ⊎ (count ≡ n)
         → Does m g a (rebuildCdb flags count (length es)) (listOf b es d) r [] (over (blocks t b n) (xorAll (operands m g a n es int d)) ∷ []) (results m g)

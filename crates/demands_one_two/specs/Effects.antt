@@ -18,7 +18,7 @@ use Rattle.geometry.specs.Places.{Range, slot-before-media, data-ends}
 use Rattle.slots.specs.Slots.{usedCount}
 use Rattle.slots.specs.Find.{emptySlot, newestOf}
 use Rattle.slots.specs.Facts.{empty-inside}
-use Rattle.slots.specs.Change.{goes, released}
+use Rattle.slots.specs.Change.{goneStores, released}
 use Rattle.slots.specs.Turns.{retained-at}
 use Rattle.slots.specs.Kept.{slotBytes, put-outside, kept-count, kept-empty}
 use Rattle.results.specs.Results.{Result, withResult, Sound}
@@ -112,4 +112,4 @@ module _ (g : Geometry) (p : Placed g) where
       pick : (c : Change) → Possible m g ws c → stored m (dataStores g c ++ map (blockStore g) ws ++ recordStores m g c) ≡ changed (written m g ws) g c
       pick Stays h = ap (stored m) (append-nil (map (blockStore g) ws))
       pick (Comes i kind x bytes) h = blocks-first m ws i kind x bytes h ∙ written-result m ws i kind x bytes h
-      pick (Goes i x) h = subst (λ (vs : List Over). stored m (map (blockStore g) vs ++ goes g i m) ≡ released (written m g vs) g i) (sym (h .1)) refl
+      pick (Goes i x) h = subst (λ (vs : List Over). stored m (map (blockStore g) vs ++ goneStores g i m) ≡ released (written m g vs) g i) (sym (h .1)) refl

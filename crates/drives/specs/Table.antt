@@ -57,8 +57,8 @@ abbrev pub sourceDrive : List ℕ → Geometry → Came → ℕ → Found
 sourceDrive m g a x = driveOf m g x
 
 -- "Marking writes the state byte alone"
-abbrev pub marks : Geometry → ℕ → ℕ → List Store
-marks g i state = store Table (entryAt g i) (state ∷ []) ∷ []
+abbrev pub markStores : Geometry → ℕ → ℕ → List Store
+markStores g i state = store Table (entryAt g i) (state ∷ []) ∷ []
 
 unfoldable pub marked : List ℕ → Geometry → ℕ → ℕ → List ℕ
-marked m g i state = stored m (marks g i state)
+marked m g i state = stored m (markStores g i state)

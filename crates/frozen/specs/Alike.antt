@@ -15,7 +15,7 @@ use Rattle.drives.specs.Table.{driveOf}
 use Rattle.slots.specs.declared.Best.{Best}
 use Rattle.slots.specs.Record.{slotOf}
 use Rattle.slots.specs.Find.{better, bestOf, newestOf}
-use Rattle.slots.specs.Change.{fall, goes, ofDrive, drops, lowerOne, lowered, released, dropOne, droppedTo, dropped}
+use Rattle.slots.specs.Change.{fallStores, goneStores, ofDrive, dropStores, lowerOne, lowered, released, dropOne, droppedTo, dropped}
 use Rattle.command.specs.Command.{sourceOf}
 use Rattle.meaning.specs.Acts.{sourcesFrom, gathered}
 use Rattle.frozen.specs.Image as old
@@ -56,7 +56,7 @@ module _ (h : old.Header) where
   lowered-alike rank zero m = refl
   lowered-alike rank (suc n) m =
       let t = lowered (geo h) rank n m in
-      in-turn (fall (geo h) rank) m n ∙ stored-if t (ltb rank (slotOf t (geo h) n .rank)) _ ∙ ap (then.lowerOne h rank n) (lowered-alike rank n m)
+      in-turn (fallStores (geo h) rank) m n ∙ stored-if t (ltb rank (slotOf t (geo h) n .rank)) _ ∙ ap (then.lowerOne h rank n) (lowered-alike rank n m)
 
   pub released-alike : (m : List ℕ) (i : ℕ) → released m (geo h) i ≡ then.released m h i
   unfolding released lowered slotOf slotAt
@@ -65,13 +65,13 @@ module _ (h : old.Header) where
   drop-alike : (d i : ℕ) (m : List ℕ) → dropOne (geo h) d i m ≡ then.dropOne h d i m
   unfolding dropOne released slotOf slotAt
   drop-alike d i m =
-      stored-if m (ofDrive d (slotOf m (geo h) i)) (goes (geo h) i m)
+      stored-if m (ofDrive d (slotOf m (geo h) i)) (goneStores (geo h) i m)
       ∙ ap (λ (t : List ℕ). cond (every (old.used (old.slot m h i) ∷ eqb (old.slot m h i .drive) d ∷ [])) t m) (released-alike m i)
 
   to-alike : (d n : ℕ) (m : List ℕ) → droppedTo (geo h) d n m ≡ then.droppedTo h d n m
   unfolding droppedTo dropOne then.droppedTo
   to-alike d zero m = refl
-  to-alike d (suc n) m = in-turn (drops (geo h) d) m n ∙ ap (dropOne (geo h) d n) (to-alike d n m) ∙ drop-alike d n (then.droppedTo h d n m)
+  to-alike d (suc n) m = in-turn (dropStores (geo h) d) m n ∙ ap (dropOne (geo h) d n) (to-alike d n m) ∙ drop-alike d n (then.droppedTo h d n m)
 
   pub dropped-alike : (m : List ℕ) (d : ℕ) → dropped m (geo h) d ≡ then.dropped m h d
   unfolding dropped

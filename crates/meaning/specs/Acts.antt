@@ -17,7 +17,7 @@ use Rattle.drives.specs.declared.Came.{Came}
 use Rattle.drives.specs.Table.{sourceDrive}
 use Rattle.slots.specs.Record.{bytesOf}
 use Rattle.slots.specs.Slots.{usedCount}
-use Rattle.slots.specs.Change.{entry, goes}
+use Rattle.slots.specs.Change.{entry, goneStores}
 use Rattle.command.specs.declared.Source.{Source}
 use Rattle.command.specs.Command.{sourceOf}
 use Rattle.meaning.specs.declared.Span.{Span}
@@ -72,7 +72,7 @@ blockStore g w = store Media (spanAt g (w .blocks)) (w .bytes)
 abbrev pub recordStores : List ℕ → Geometry → Change → List Store
 recordStores m g Stays = []
 recordStores m g (Comes i kind x bytes) = store Slots (slotAt g i) (bytesOf (entry (usedCount m g + 1) kind (x .drive) (x .block .0) (x .count))) ∷ []
-recordStores m g (Goes i x) = goes g i m
+recordStores m g (Goes i x) = goneStores g i m
 
 -- where the result goes, then the data's own blocks, then the records; a secondary's blocks stand before the data's
 abbrev pub storesIn : List ℕ → Geometry → Effect → List Store

@@ -31,17 +31,15 @@ use Rattle.sums.specs.OldBytes.{ZeroSums, old-bytes, length-rows}
 use Rattle.sense.specs.declared.Answer.the-variants.{Good}
 use Rattle.sense.specs.declared.Outcome.{Outcome}
 use Rattle.sense.specs.Sense.{outcomeOf}
-use Rattle.meaning.specs.declared.Act.the-variants.{Rebuild}
 use Rattle.meaning.specs.Stepped.{Stepped}
 use Rattle.command.specs.declared.Source.{Source}
 use Rattle.meaning.specs.Acts.{namedBlocks}
 use Rattle.callers.specs.Bytes.{rebuildCdb}
 use Rattle.callers.specs.Lists.{listOf}
-use Rattle.callers.specs.Does.{summing, blocks, Target}
-use Rattle.callers.specs.Goes.{exactly}
+use Rattle.callers.specs.Does.{blocks}
 use Rattle.callers.specs.Sources.{Names, sourceAt}
 use Rattle.callers.specs.Listed.{together-byte}
-use Rattle.callers.specs.Operands.{operands, gathered-is, rebuild-listed}
+use Rattle.callers.specs.Operands.{operands, rebuild-exactly}
 use Rattle.parity.specs.AnyStep.{theStep, AllPresent, Overwriting, overwritten, rebuilt, BringsBack}
 
 module _ (m : List ℕ) (g : Geometry) (h : Shelf m g) (up : AllPresent m g) (small : (e : ℕ) → e < g .d → addressOf m g e < 4294967296)
@@ -124,14 +122,11 @@ module _ (m : List ℕ) (g : Geometry) (h : Shelf m g) (up : AllPresent m g) (sm
       → Stepped t a (rebuildCdb sec count (length es)) (listOf b sources []) room (outcomeOf Good 0) (put t at (xorAll (operands t g a n sources 0 []))) (put room 0 [])
   does room =
       let many : length sources ≡ length es = length-map es (sourceAt m g b) in
-      let call : Target t g a d = record { shelf = shelf; found = found d (w .drive-in); present = present d (w .drive-in) } in
-      let named = each-map (sourceAt m g b) (Other (g .d) d) (Names t g a (blocks d b n)) names es each in
       subst (λ (k : ℕ). Stepped t a (rebuildCdb sec count k) (listOf b sources []) room (outcomeOf Good 0) (put t at (xorAll (operands t g a n sources 0 []))) (put room 0 [])) many
-      (subst (λ (x : List ℕ). Stepped t a (rebuildCdb sec count (length sources)) (listOf b sources []) room (outcomeOf Good 0) (put t at x) (put room 0 []))
-      (gathered-is t g a d call b n sources 0 [] named refl)
-      (exactly t g shelf a (rebuildCdb sec count (length sources)) (listOf b sources []) room (Rebuild (blocks d b n) (summing a 0))
-      (rebuild-listed t g a d call b n sources 0 [] named refl (omega (arith, many, how-many, f .placed .ranges .d-low)) (omega (arith, many, how-many, f .placed .ranges .d-high))
-      (record { range = range; present = present d (w .drive-in); some = w .some-rows }) room sec (together-byte sec (w .together)) count (w .how-long) (inl refl))))
+      (rebuild-exactly t g a d (record { shelf = shelf; found = found d (w .drive-in); present = present d (w .drive-in) }) b n sources 0 []
+      (each-map (sourceAt m g b) (Other (g .d) d) (Names t g a (blocks d b n)) names es each) refl
+      (omega (arith, many, how-many, f .placed .ranges .d-low)) (omega (arith, many, how-many, f .placed .ranges .d-high))
+      (record { range = range; present = present d (w .drive-in); some = w .some-rows }) room sec (together-byte sec (w .together)) count (w .how-long) (inl refl))
 
   -- from zero sums alone, whatever was done before
   pub restored : ZeroSums m g b n → (room : List ℕ) → BringsBack m (rebuilt theStep m g d b ys es sec count room)

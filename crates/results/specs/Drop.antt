@@ -21,7 +21,7 @@ use Rattle.geometry.specs.Outside.{Outside}
 use Rattle.slots.specs.Record.{slotOf}
 use Rattle.slots.specs.Slots.{slotsOk}
 use Rattle.slots.specs.Facts.{right}
-use Rattle.slots.specs.Change.{released, ofDrive, drops, droppedTo, dropped}
+use Rattle.slots.specs.Change.{released, ofDrive, dropStores, droppedTo, dropped}
 use Rattle.results.specs.Lists.{keeping, keep-all, keep-keep}
 use Rattle.results.specs.Members.{ages-in}
 use Rattle.results.specs.Results.{Result, resultAt, byAge, results}
@@ -73,7 +73,7 @@ drop-keeps : (s : List ℕ) (g : Geometry) (drive : ℕ) (P : List ℕ → Type 
     → P (dropped s g drive)
 unfolding dropped droppedTo released
 drop-keeps s g drive P keep =
-    in-turn-keeps (drops g drive) s (λ n t. P t) (g .s)
+    in-turn-keeps (dropStores g drive) s (λ n t. P t) (g .s)
     (λ n t l h. on-test (λ (ws : List Store). P (stored t ws)) (ofDrive drive (slotOf t g n)) (λ e. keep t n l h) (λ e. h))
 
 pub length-dropped : (s : List ℕ) (g : Geometry) (drive : ℕ) → length (dropped s g drive) ≡ length s
@@ -86,7 +86,7 @@ module _ (s : List ℕ) (g : Geometry) (f : Framed s g) (ok : slotsOk s g ≡ tr
   all-emptied : Emptied s g drive (g .s) (dropped s g drive)
   unfolding dropped droppedTo released
   all-emptied =
-      in-turn-keeps (drops g drive) s (Emptied s g drive) (g .s)
+      in-turn-keeps (dropStores g drive) s (Emptied s g drive) (g .s)
       (λ n t l h. on-test (λ (ws : List Store). Emptied s g drive (suc n) (stored t ws)) (ofDrive drive (slotOf t g n)) (emptied-hit s g f drive n t l h) (emptied-miss s g f drive n t l h))
       (record { as-long = refl; ok = ok; none = λ j lj. absurd (not-suc-le-zero lj); others = refl })
 

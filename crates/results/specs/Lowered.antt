@@ -20,7 +20,7 @@ use Rattle.geometry.specs.Frame.{Framed}
 use Rattle.geometry.specs.Places.{slot-room}
 use Rattle.geometry.specs.Outside.{Outside}
 use Rattle.slots.specs.Record.{slotOf}
-use Rattle.slots.specs.Change.{fall, lowerOne, lowered}
+use Rattle.slots.specs.Change.{fallStores, lowerOne, lowered}
 use Rattle.slots.specs.Stored.{slot-ranked, slot-other}
 use Rattle.results.specs.Lower.{lowerRank, lowerSlot}
 
@@ -53,17 +53,17 @@ module _ (g : Geometry) (rank : ℕ) where
   module _ (s : List ℕ) where
     pub length-lowered : (n : ℕ) → length (lowered g rank n s) ≡ length s
     unfolding lowered lowerOne
-    length-lowered n = in-turn-keeps (fall g rank) s (λ i t. length t ≡ length s) n (λ i t l e. length-lower t i ∙ e) refl
+    length-lowered n = in-turn-keeps (fallStores g rank) s (λ i t. length t ≡ length s) n (λ i t l e. length-lower t i ∙ e) refl
 
     pub lowered-part : (n a m : ℕ) → n ≤ g .s → Outside g a m → part (lowered g rank n s) a m ≡ part s a m
     unfolding lowered lowerOne
-    lowered-part n a m l o = in-turn-keeps (fall g rank) s (λ i t. part t a m ≡ part s a m) n (λ i t li e. lower-part t i a m (o i (omega arith)) ∙ e) refl
+    lowered-part n a m l o = in-turn-keeps (fallStores g rank) s (λ i t. part t a m ≡ part s a m) n (λ i t li e. lower-part t i a m (o i (omega arith)) ∙ e) refl
 
     -- not reached yet
     lowered-above : (n j : ℕ) → n ≤ j → slotOf (lowered g rank n s) g j ≡ slotOf s g j
     unfolding lowered lowerOne
     lowered-above n j =
-        in-turn-keeps (fall g rank) s (λ i t. i ≤ j → slotOf t g j ≡ slotOf s g j) n (λ i t l e h. lower-other t i j (λ q. omega arith) ∙ e (omega arith)) (λ h. refl)
+        in-turn-keeps (fallStores g rank) s (λ i t. i ≤ j → slotOf t g j ≡ slotOf s g j) n (λ i t l e h. lower-other t i j (λ q. omega arith) ∙ e (omega arith)) (λ h. refl)
 
     -- passed
     pub lowered-below : Framed s g → ((j : ℕ) → j < g .s → slotOf s g j .rank < 2 ^ 32) → (n j : ℕ) → n ≤ g .s → j < n
@@ -73,7 +73,7 @@ module _ (g : Geometry) (rank : ℕ) where
     lowered-below f small (suc n) j h l =
         let t = lowered g rank n s in
         let q : slotOf t g n ≡ slotOf s g n = lowered-above n n (omega arith) in
-        ap (λ (w : List ℕ). slotOf w g j) (in-turn (fall g rank) s n)
+        ap (λ (w : List ℕ). slotOf w g j) (in-turn (fallStores g rank) s n)
         ∙ ⊎-elim
         (λ e. rw e (lower-slot t n (omega (arith, slot-room s g n f h, length-lowered n)) (rw q (small n h)) ∙ ap (lowerSlot rank) q))
         (λ lt. lower-other t n j (λ e. omega arith) ∙ lowered-below f small n j (omega arith) lt)

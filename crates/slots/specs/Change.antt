@@ -31,36 +31,36 @@ unfoldable pub retained : List ℕ → Geometry → ℕ → ℕ → ℕ → ℕ 
 retained m g kind drive block n bytes = entered (emptySlot m g) m g (entry (usedCount m g + 1) kind drive block n) bytes
 
 -- "higher ranks fall by one": slot i's, where it is above the rank
-abbrev pub fall : Geometry → ℕ → ℕ → List ℕ → List Store
-fall g rank i m = cond (ltb rank (slotOf m g i .rank)) (store Slots (slotAt g i) (toBe 4 (slotOf m g i .rank - 1)) ∷ []) []
+abbrev pub fallStores : Geometry → ℕ → ℕ → List ℕ → List Store
+fallStores g rank i m = cond (ltb rank (slotOf m g i .rank)) (store Slots (slotAt g i) (toBe 4 (slotOf m g i .rank - 1)) ∷ []) []
 
 -- "When a result goes, its record is zeroed, its data left, and higher ranks fall by one."
-abbrev pub goes : Geometry → ℕ → List ℕ → List Store
-goes g i m = andThen (inTurn (fall g (slotOf m g i .rank)) (g .s)) m (store Slots (slotAt g i) (replicate 16 0) ∷ [])
+abbrev pub goneStores : Geometry → ℕ → List ℕ → List Store
+goneStores g i m = andThen (inTurn (fallStores g (slotOf m g i .rank)) (g .s)) m (store Slots (slotAt g i) (replicate 16 0) ∷ [])
 
 -- "Hard reset drops all results of its drive": slot i's
 abbrev pub ofDrive : ℕ → Slot → Bool
 ofDrive drive e = every (isUsed e ∷ eqb (e .drive) drive ∷ [])
 
-abbrev pub drops : Geometry → ℕ → ℕ → List ℕ → List Store
-drops g drive i m = cond (ofDrive drive (slotOf m g i)) (goes g i m) []
+abbrev pub dropStores : Geometry → ℕ → ℕ → List ℕ → List Store
+dropStores g drive i m = cond (ofDrive drive (slotOf m g i)) (goneStores g i m) []
 
 -- ---- what they leave: in slot i, and in the first n slots
 
 unfoldable pub lowerOne : Geometry → ℕ → ℕ → List ℕ → List ℕ
-lowerOne g rank i m = stored m (fall g rank i m)
+lowerOne g rank i m = stored m (fallStores g rank i m)
 
 unfoldable pub lowered : Geometry → ℕ → ℕ → List ℕ → List ℕ
-lowered g rank n m = stored m (inTurn (fall g rank) n m)
+lowered g rank n m = stored m (inTurn (fallStores g rank) n m)
 
 unfoldable pub released : List ℕ → Geometry → ℕ → List ℕ
-released m g i = stored m (goes g i m)
+released m g i = stored m (goneStores g i m)
 
 unfoldable pub dropOne : Geometry → ℕ → ℕ → List ℕ → List ℕ
-dropOne g drive i m = stored m (drops g drive i m)
+dropOne g drive i m = stored m (dropStores g drive i m)
 
 unfoldable pub droppedTo : Geometry → ℕ → ℕ → List ℕ → List ℕ
-droppedTo g drive n m = stored m (inTurn (drops g drive) n m)
+droppedTo g drive n m = stored m (inTurn (dropStores g drive) n m)
 
 unfoldable pub dropped : List ℕ → Geometry → ℕ → List ℕ
 dropped m g drive = droppedTo g drive (g .s) m

@@ -22,7 +22,7 @@ use Rattle.slots.specs.Record.{slotOf, bytesOf, isUsed}
 use Rattle.slots.specs.RecordLaws.{length-bytes, rank-at}
 use Rattle.slots.specs.Slots.{usedCount}
 use Rattle.slots.specs.Find.{emptySlot, wanted, better, bestOf, newestOf}
-use Rattle.slots.specs.Change.{entry, retained, fall, drops, lowerOne, lowered, released, dropOne, droppedTo, dropped}
+use Rattle.slots.specs.Change.{entry, retained, fallStores, dropStores, lowerOne, lowered, released, dropOne, droppedTo, dropped}
 
 -- ---- the newest
 
@@ -87,7 +87,7 @@ lowered-none g rank s = refl
 
 pub lowered-more : (g : Geometry) (rank n : ℕ) (s s₀ : List ℕ) → s ≡ lowered g rank n s₀ → lowerOne g rank n s ≡ lowered g rank (n + 1) s₀
 unfolding lowered lowerOne
-lowered-more g rank n s s₀ e = rw (add-one n) (ap (lowerOne g rank n) e ∙ sym (in-turn (fall g rank) s₀ n))
+lowered-more g rank n s s₀ e = rw (add-one n) (ap (lowerOne g rank n) e ∙ sym (in-turn (fallStores g rank) s₀ n))
 
 pub lowered-done : (g : Geometry) (rank i : ℕ) (s s₀ : List ℕ) → s ≡ lowered g rank i s₀ → i ≤ g .s → g .s ≤ i → s ≡ lowered g rank (g .s) s₀
 lowered-done g rank i s s₀ e h l = let q : i ≡ g .s = omega arith in e ∙ ap (λ (k : ℕ). lowered g rank k s₀) q
@@ -113,7 +113,7 @@ dropped-none g drive s = refl
 
 pub dropped-more : (g : Geometry) (drive n : ℕ) (s s₀ : List ℕ) → s ≡ droppedTo g drive n s₀ → dropOne g drive n s ≡ droppedTo g drive (n + 1) s₀
 unfolding droppedTo dropOne
-dropped-more g drive n s s₀ e = rw (add-one n) (ap (dropOne g drive n) e ∙ sym (in-turn (drops g drive) s₀ n))
+dropped-more g drive n s s₀ e = rw (add-one n) (ap (dropOne g drive n) e ∙ sym (in-turn (dropStores g drive) s₀ n))
 
 pub dropped-done : (g : Geometry) (drive i : ℕ) (s s₀ : List ℕ) → s ≡ droppedTo g drive i s₀ → i ≤ g .s → g .s ≤ i → s ≡ dropped s₀ g drive
 unfolding dropped
