@@ -1,5 +1,4 @@
 -- Resets and markings: one that is refused moves nothing (demand 1); every one keeps a valid image valid, and the drives where they are.
---
 use mathlib.Core.Path.{_≡_, refl, sym, subst}
 use mathlib.Core.Logic.{inl}
 use mathlib.Core.Bool.{false}

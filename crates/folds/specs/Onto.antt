@@ -1,5 +1,4 @@
 -- As many numbers as values, no two with one value: each value is some number's.
---
 use Prim.Native.Nat.{ℕ, zero, suc, _+_, _≤_, _<_}
 use native.Mathlib.Nat.{not-suc-le-zero}
 use native.Mathlib.Omega.{arith}

@@ -1,5 +1,4 @@
 -- What a branch of the code says of a definition's tests: `search tests` closes a return of a decision function.
---
 use mathlib.Core.Bool.{Bool, true, false, cond}
 use mathlib.Core.Path.{_≡_, refl}
 use borrow.Author.Tests.{lt-ltb, le-ltb, le-leb, lt-leb, eq-eqb, ne-eqb}

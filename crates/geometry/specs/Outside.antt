@@ -1,5 +1,4 @@
 -- Ranges of an image that meet no slot's record: what comes before the slots, the slots' data, and the media.
---
 use Prim.Native.Nat.{ℕ, _+_, _*_, _≤_, _<_}
 use native.Mathlib.Omega.{arith}
 use mathlib.Core.Path.{ap}

@@ -1,5 +1,4 @@
 -- A list of bytes with a part written over. It is as long as before whatever is written, so that few laws ask for lengths.
---
 use mathlib.Core.Path.{_≡_, refl, sym, ap, _∙_}
 use Prim.Native.Nat.{ℕ, zero, suc, _+_, _-_, _≤_, _<_}
 use native.Mathlib.Nat.{le-of-suc-le-suc, not-suc-le-zero, suc-add, zero-add}

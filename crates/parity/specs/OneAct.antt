@@ -1,5 +1,4 @@
 -- What one act does: the unread lines stay the retained results, and a row's sum stays what it was but for what is owed.
---
 use Prim.Native.Nat.{ℕ, _*_, _≤_, _<_}
 use native.Mathlib.Omega.{arith}
 use mathlib.Core.Bool.{Bool, true, false, cond, and-true}
@@ -15,7 +14,8 @@ use Rattle.results.specs.First.{sansFirst}
 use Rattle.results.specs.Results.{Result, results}
 use Rattle.results.specs.Newest.{answers}
 use Rattle.image.specs.Shelf.{Shelf, shelf-frame}
-use Rattle.sums.specs.Row.{rowSum}
+use Rattle.sums.specs.Row.{counts, rowSum}
+use Rattle.sums.specs.Counts.{counts-all}
 use Rattle.sums.specs.Length.{length-sum}
 use Rattle.sums.specs.Share.{share, length-share}
 use Rattle.meaning.specs.declared.Span.{Span}
@@ -43,6 +43,10 @@ module _ (m : List ℕ) (g : Geometry) (h : Shelf m g) (s : List ℕ) (es : List
   length-δ : (x : Span) (ys : List ℕ) → length (share g (x .block .0) ys r) ≤ length sum
   length-δ x ys = omega (arith, length-share g (x .block .0) ys r, length-sum m g r f lr)
 
+  -- every drive counts
+  whole : (x : Span) (δ : List ℕ) → cond (counts m g (x .drive)) δ [] ⊻ [] ≡ δ
+  whole x δ = xor-nil _ ∙ ap (λ (c : Bool). cond c δ []) (counts-all m g (x .drive))
+
   -- no block is written, and nothing more is owed
   quiet : (fs : List Line) → owed g r fs ≡ owed g r es → (sum ⊻ []) ⊻ owed g r fs ≡ sum ⊻ owed g r es
   quiet fs e = ap₂ _⊻_ (xor-nil sum) e
@@ -58,7 +62,7 @@ module _ (m : List ℕ) (g : Geometry) (h : Shelf m g) (s : List ℕ) (es : List
   xp-sum x b e c =
       let δ = share g (x .block .0) s r in
       let now = owed g r (noted m g s (XpWrite x) es) in
-      ap (λ (o : List ℕ). (sum ⊻ o) ⊻ now) (xor-nil _ ∙ added x s b e) ∙ xor-regroups sum δ now ∙ ap (_⊻_ sum) (owed-carried g r x s es c)
+      ap (λ (o : List ℕ). (sum ⊻ o) ⊻ now) (whole x _ ∙ added x s b e) ∙ xor-regroups sum δ now ∙ ap (_⊻_ sum) (owed-carried g r x s es c)
 
   couple-sum : (x y : Span) → Blocks m g x → Blocks m g y → x .count ≡ y .count → Filled g x s → x .block .0 ≡ y .block .0
       → sum ⊻ moved m g (over y (blocksOf m g y ⊻ (s ⊻ blocksOf m g x)) ∷ over x s ∷ []) r ≡ sum
@@ -68,7 +72,7 @@ module _ (m : List ℕ) (g : Geometry) (h : Shelf m g) (s : List ℕ) (es : List
       let ld : length (s ⊻ u) ≡ y .count * g .l = length-xor-le s u (omega (arith, e)) ∙ e ∙ ap (λ (k : ℕ). k * g .l) ec in
       let δ = share g (x .block .0) (s ⊻ u) r in
       ap (_⊻_ sum)
-      (ap₂ _⊻_ (added y (s ⊻ u) by ld ∙ ap (λ (k : ℕ). share g k (s ⊻ u) r) (sym eb)) (xor-nil _ ∙ ap (λ (ys : List ℕ). share g (x .block .0) ys r) (xor-commutes u s)))
+      (ap₂ _⊻_ (sym (xor-nil _) ∙ whole y _ ∙ added y (s ⊻ u) by ld ∙ ap (λ (k : ℕ). share g k (s ⊻ u) r) (sym eb)) (whole x _ ∙ ap (λ (ys : List ℕ). share g (x .block .0) ys r) (xor-commutes u s)))
       ∙ sym (xor-regroups sum δ δ)
       ∙ xor-cancels sum δ (length-δ x (s ⊻ u))
 
@@ -77,7 +81,7 @@ module _ (m : List ℕ) (g : Geometry) (h : Shelf m g) (s : List ℕ) (es : List
       → (sum ⊻ moved m g (cond writes (over x s ∷ []) []) r) ⊻ owed g r (one ∷ es) ≡ sum ⊻ owed g r es
   data-sum x true one t e =
       let δ = share g (x .block .0) (blocksOf m g x ⊻ s) r in
-      ap₂ _⊻_ (ap (_⊻_ sum) (xor-nil δ)) (owed-hit g r one es t ∙ ap (λ (o : List ℕ). o ⊻ owed g r es) (e refl)) ∙ xor-meets sum δ (owed g r es) (length-δ x (blocksOf m g x ⊻ s))
+      ap₂ _⊻_ (ap (_⊻_ sum) (whole x δ)) (owed-hit g r one es t ∙ ap (λ (o : List ℕ). o ⊻ owed g r es) (e refl)) ∙ xor-meets sum δ (owed g r es) (length-δ x (blocksOf m g x ⊻ s))
   data-sum x false one t e = quiet (one ∷ es) (owed-miss g r one es t)
 
 -- ---- every act: what it makes unread, and what it writes

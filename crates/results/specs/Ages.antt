@@ -1,5 +1,4 @@
 -- The used slots by age, newest first.
---
 use Prim.Native.Nat.{ℕ, zero, suc}
 use mathlib.Core.Path.{_≡_}
 use mathlib.Core.Bool.{not}

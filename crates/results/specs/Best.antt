@@ -1,5 +1,4 @@
 -- What the search over the slots finds: of those wanted, one of the highest rank.
---
 use Prim.Native.Nat.{ℕ, zero, suc, _≤_, _<_}
 use native.Mathlib.Nat.{not-suc-le-zero}
 use native.Mathlib.Omega.{arith}

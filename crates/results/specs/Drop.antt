@@ -1,6 +1,5 @@
 -- All results of a drive go: the slots stay right, the results of the other drives stay in order, and no byte outside the slots' records
 -- changes.
---
 use Prim.Native.Nat.{ℕ, suc, _<_}
 use native.Mathlib.Nat.{not-suc-le-zero}
 use native.Mathlib.Omega.{arith}

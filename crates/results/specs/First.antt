@@ -1,5 +1,4 @@
 -- The first element of a list that passes a test, and the rest of the list.
---
 use mathlib.Core.Path.{_≡_, refl, sym, ap, _∙_}
 use mathlib.Core.Bool.{Bool, true, false, cond}
 use mathlib.Core.Logic.{⊎-elim}

@@ -1,5 +1,4 @@
 -- "Something to retain and no empty slot": as many results are retained as there are slots.
---
 use Prim.Native.Nat.{ℕ}
 use mathlib.Core.Bool.{true, not}
 use mathlib.Core.Path.{_≡_, _∙_}

@@ -1,5 +1,4 @@
 -- An empty slot takes a result at rank k + 1: the slots stay right, and it is the newest.
---
 use Prim.Native.Nat.{ℕ, suc, _+_, _≤_, _<_}
 use native.Mathlib.Omega.{arith}
 use mathlib.Core.Bool.{true, false, true≢false}

@@ -1,5 +1,4 @@
 -- A used slot is emptied and the higher ranks fall by one: the slots stay right, and the others keep their order.
---
 use Prim.Native.Nat.{ℕ, zero, suc, _+_, _≤_, _<_}
 use native.Mathlib.Numerals.{add-one}
 use native.Mathlib.Omega.{arith}

@@ -1,5 +1,4 @@
 -- An image whose bytes in the slots are as before has the same results.
---
 use Prim.Native.Nat.{ℕ, suc}
 use mathlib.Core.Bool.{true}
 use mathlib.Core.Path.{_≡_, ap, _∙_}

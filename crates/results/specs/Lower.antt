@@ -1,5 +1,4 @@
 -- "higher ranks fall by one": a rank, and a slot's record.
---
 use Prim.Native.Nat.{ℕ, suc, _+_, _-_, _≤_, _<_}
 use native.Mathlib.Omega.{arith}
 use mathlib.Core.Bool.{cond}

@@ -1,5 +1,4 @@
 -- The slots by age are exactly the used slots, in descending rank, where the slots are right.
---
 use Prim.Native.Nat.{ℕ, zero, suc, _+_, _≤_, _<_}
 use native.Mathlib.Nat.{not-suc-le-zero}
 use native.Mathlib.Omega.{arith}

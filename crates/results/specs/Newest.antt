@@ -1,5 +1,4 @@
 -- XDREAD's answer: the newest retained on a drive with a block number is the first such in the list by age.
---
 use Prim.Native.Nat.{ℕ, zero, suc, _≤_, _<_}
 use native.Mathlib.Omega.{arith}
 use mathlib.Core.Bool.{Bool, true, not, true≢false}

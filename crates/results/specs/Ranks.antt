@@ -1,5 +1,4 @@
 -- The slot of a rank, where the slots are right, and the list by age that these make.
---
 use Prim.Native.Nat.{ℕ, zero, suc, _+_, _<_}
 use native.Mathlib.Numerals.{add-one}
 use native.Mathlib.Omega.{arith}

@@ -1,5 +1,4 @@
 -- A result that goes: the slots stay right, it alone is taken out of the results, and no byte outside the slots' records changes.
---
 use Prim.Native.Nat.{ℕ, _*_, _^_, _<_}
 use native.Mathlib.Omega.{arith}
 use mathlib.Core.Bool.{true, not}

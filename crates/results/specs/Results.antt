@@ -1,5 +1,4 @@
 -- The retained results of an image as a list by age, newest first.
---
 use Prim.Native.Nat.{ℕ, _+_, _*_, _≤_, _<_}
 use mathlib.Core.Bool.{true}
 use mathlib.Core.Path.{_≡_, ap, _∙_}

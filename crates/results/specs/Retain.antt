@@ -1,5 +1,4 @@
 -- A result that is retained: the slots stay right, and it is the newest of the results.
---
 use Prim.Native.Nat.{ℕ, _+_, _*_, _≤_, _<_}
 use native.Mathlib.Omega.{arith}
 use mathlib.Core.Bool.{true, true≢false}

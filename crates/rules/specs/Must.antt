@@ -1,5 +1,4 @@
 -- What must hold, each test with the place where it is seen: as rules, the first that fails decides.
---
 use Prim.Native.Nat.{ℕ, zero, suc}
 use mathlib.Core.List.{List, [], _∷_, _++_}
 use mathlib.Core.Bool.{Bool, true, false, not, cond, _&&_}

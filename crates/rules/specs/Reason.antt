@@ -1,5 +1,4 @@
 -- Why a list of rules decided as it did: the rule that a stop names applies, and no rule before it does.
---
 use Prim.Native.Nat.{ℕ, _<_}
 use native.Mathlib.Omega.{arith}
 use mathlib.Core.List.{List, [], _∷_}

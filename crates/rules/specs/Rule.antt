@@ -1,5 +1,4 @@
 -- "The first that applies decides": lists of rules, over any type of place, answer and decision.
---
 use Prim.Native.Nat.{ℕ, zero, suc, _<_}
 use native.Mathlib.Omega.{arith}
 use mathlib.Core.List.{List, [], _∷_, _++_}

@@ -1,5 +1,4 @@
 -- Wrong steps, each by a call or two after which it has broken the contract of `shelf::step`, whatever else it answers and leaves.
---
 use Prim.Native.Nat.{ℕ, zero, suc}
 use native.Mathlib.Omega.{arith}
 use mathlib.Core.List.{List, [], _∷_, _++_, map}

@@ -1,5 +1,5 @@
 -- What a write does to each row's sum.
-use mathlib.Core.Bool.{Bool, true, cond}
+use mathlib.Core.Bool.{Bool, true, false, cond}
 use mathlib.Core.Path.{_≡_, refl, sym, ap, ap₂, _∙_}
 use mathlib.Core.Logic.{⊎-elim}
 use mathlib.Core.List.{List, []}
@@ -128,11 +128,12 @@ module _ (s : List ℕ) (g : Geometry) (f : Framed s g) (d b n : ℕ) (w : Range
   kept = same-counts (put s at ys) s g (front-put s g at ys (omega (arith, place-after-media g d b, f .placed .slots-end)))
 
   -- each row's sum changes by the old bytes and the new ones there, where the drive counts
-  pub sum-put : counts s g d ≡ true → (r : ℕ) → r < g .b → rowSum (put s at ys) g r ≡ rowSum s g r ⊻ share g b (old ⊻ ys) r
-  sum-put c r l =
-      let δ = share g b (old ⊻ ys) r in
-      let own : added (put s at ys) g r d ≡ added s g r d ⊻ δ =
-      ap (λ (x : Bool). cond x (blockIn (put s at ys) g r d) []) (kept d (w .drive-in) ∙ c)
-      ∙ own-block r
-      ∙ sym (ap (λ (x : Bool). cond x (blockIn s g r d) [] ⊻ δ) c) in
-      sum-one s (put s at ys) g r d δ own (w .drive-in) (λ e le ne. same-added s (put s at ys) g r e (kept e le) (other-block r e l ne))
+  pub sum-put : (r : ℕ) → r < g .b → rowSum (put s at ys) g r ≡ rowSum s g r ⊻ cond (counts s g d) (share g b (old ⊻ ys) r) []
+  sum-put r l =
+      let own : added (put s at ys) g r d ≡ added s g r d ⊻ cond (counts s g d) (share g b (old ⊻ ys) r) [] =
+      ap (λ (x : Bool). cond x (blockIn (put s at ys) g r d) []) (kept d (w .drive-in)) ∙ pick (counts s g d) in
+      sum-one s (put s at ys) g r d _ own (w .drive-in) (λ e le ne. same-added s (put s at ys) g r e (kept e le) (other-block r e l ne))
+    where
+      pick : (c : Bool) → cond c (blockIn (put s at ys) g r d) [] ≡ cond c (blockIn s g r d) [] ⊻ cond c (share g b (old ⊻ ys) r) []
+      pick true = own-block r
+      pick false = sym (xor-nil [])

@@ -1,5 +1,4 @@
 -- `leaf::leaf_xor_into` meets its contract: the test of the lengths decides both what it answers and what it leaves.
---
 use mathlib.Core.Path.{refl, sym, ap, _∙_}
 use Rattle.octets.specs.Xor.{_⊻_}
 use Rattle.octets.specs.Operands.{xorAll-one}

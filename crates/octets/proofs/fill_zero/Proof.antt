@@ -1,5 +1,4 @@
 -- `octets::fill_zero` meets its contract. The loop's invariant: the first i of as many zeros are written over dst's front.
---
 use mathlib.Core.Path.{_≡_, refl, sym, ap, _∙_}
 use mathlib.Core.List.{List}
 use Prim.Native.Nat.{ℕ, _≤_, _-_}

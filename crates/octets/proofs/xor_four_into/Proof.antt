@@ -1,5 +1,4 @@
 -- `octets::xor_four_into` meets its contract. The loop's invariant is that of `xor_into`, with the XOR of the four for src.
---
 use mathlib.Core.Path.{_≡_, refl, sym, ap, _∙_}
 use mathlib.Core.List.{List, [], _∷_}
 use Prim.Native.Nat.{ℕ, _≤_, _-_}

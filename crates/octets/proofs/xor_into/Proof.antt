@@ -1,5 +1,4 @@
 -- `octets::xor_into` meets its contract. The loop's invariant: dst is what it was, XORed with the first i bytes of src.
---
 use mathlib.Core.Path.{_≡_, refl, sym, ap, _∙_}
 use Prim.Native.Nat.{_≤_, _-_}
 use native.Mathlib.Numerals.{add-one}
