@@ -21,9 +21,8 @@ use Rattle.meaning.specs.Checks.{isUnknown}
 
 -- ---- what is said, with the code that says it: what the CDB has no bytes for is zero, and so is what must be
 
--- "block 2-5, length 6-7, secondary address 8-10, secondary block 11-14"
-abbrev pub sixteenSaying : ℕ → Op → Came → ℕ → ℕ → ℕ → ℕ → ℕ → Command
-sixteenSaying code o a flags block count second spot =
+abbrev saying : ℕ → Op → Came → ℕ → ℕ → ℕ → ℕ → ℕ → ℕ → Command
+saying code o a flags block count list second spot =
     record {
       code = code;
       op = o;
@@ -33,31 +32,22 @@ sixteenSaying code o a flags block count second spot =
       control = 0;
       block = record { 0 = block };
       count = count;
-      list = 0;
+      list = list;
       second = record { 0 = second };
       spot = record { 0 = spot };
     }
 
+-- "block 2-5, length 6-7, secondary address 8-10, secondary block 11-14"
+abbrev pub sixteenSaying : ℕ → Op → Came → ℕ → ℕ → ℕ → ℕ → ℕ → Command
+sixteenSaying code o a flags block count second spot = saying code o a flags block count 0 second spot
+
 -- "block 2-5, length 7-8"
 abbrev pub tenSaying : ℕ → Op → Came → ℕ → ℕ → ℕ → Command
-tenSaying code o a flags block count = sixteenSaying code o a flags block count 0 0
+tenSaying code o a flags block count = saying code o a flags block count 0 0 0
 
 -- "length 2-5, list length 7-8"
 abbrev pub listedSaying : ℕ → Op → Came → ℕ → ℕ → ℕ → Command
-listedSaying code o a flags count list =
-    record {
-      code = code;
-      op = o;
-      came = a;
-      flags = flags;
-      six = 0;
-      control = 0;
-      block = record { 0 = 0 };
-      count = count;
-      list = list;
-      second = record { 0 = 0 };
-      spot = record { 0 = 0 };
-    }
+listedSaying code o a flags count list = saying code o a flags 0 count list 0 0
 
 -- ---- the CDBs, each with byte 1 given
 

@@ -66,7 +66,7 @@ module _ (m : List ℕ) (g : Geometry) (a : Came) (t : ℕ) (h : Target m g a t)
       let u = newest-used m g t b (h .shelf .slots-ok) i q in
       let at : (slotOf m g i .block .0) ≡ b = eqb-true _ _ (holds _ 2 (q .asked)) in
       goes m g a t h (xdreadCdb code b n) [] r XdRead (tenSaying code XdRead a 0 b n) (ToXdRead (blocks t b n) i)
-      (ten-says code XdRead a 0 b n said refl (omega (arith, u .range-in)) (omega (arith, w .limited)))
+      (ten-says code XdRead a 0 b n said refl (omega (arith, u .fits .range .range-in)) (omega (arith, w .limited)))
       (refl
       then refl
       then refl

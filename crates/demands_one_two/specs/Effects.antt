@@ -89,7 +89,7 @@ module _ (g : Geometry) (p : Placed g) where
       ≡ stored (put (written m g ws) (dataAt g i) bytes) (recordStores m g (Comes i kind x bytes))
   blocks-first m ws i kind x bytes (e, sound) =
       let room : dataAt g i + length bytes ≤ g .media =
-      omega (arith, slot-before-media g i p (empty-inside m g i e .0), data-ends g i (x .count) (sound .len-high), sound .exact) in
+      omega (arith, slot-before-media g i p (empty-inside m g i e .0), data-ends g i (x .count) (sound .fits .len-high), sound .exact) in
       stored-append (put m (dataAt g i) bytes) (map (blockStore g) ws) (recordStores m g (Comes i kind x bytes))
       ∙ ap (λ (u : List ℕ). stored u (recordStores m g (Comes i kind x bytes))) (before-written (dataAt g i) bytes room m ws)
 

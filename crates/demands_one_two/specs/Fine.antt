@@ -45,15 +45,7 @@ module _ (m : List ℕ) (g : Geometry) (f : Framed m g) (s : List ℕ) (room : �
 
   sound-in : (kind : ℕ) (x : Span) (bytes : List ℕ) → 1 ≤ kind → kind ≤ 2 → Blocks m g x → Limited g x → length bytes ≡ x .count * g .l → Sound g (resultIn kind x bytes)
   sound-in kind x bytes lo hi b most e =
-      record {
-        kind-low = lo;
-        kind-high = hi;
-        drive-in = b .range .drive-in;
-        len-low = b .some;
-        len-high = most;
-        range-in = b .range .range-in;
-        exact = e;
-      }
+      record { fits = record { kind-low = lo; kind-high = hi; range = b .range; len-low = b .some; len-high = most }; exact = e }
 
   -- the target's own blocks XOR as many bytes
   length-own : (x : Span) (ys : List ℕ) → Blocks m g x → length ys ≡ x .count * g .l → length (blocksOf m g x ⊻ ys) ≡ x .count * g .l

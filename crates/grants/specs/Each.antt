@@ -47,7 +47,7 @@ pub held-at : (m : List ℕ) (g : Geometry) → Shelf m g → (x : Span) (i : �
 held-at m g v x i e l =
     let n = newest-at m g (x .drive) (x .block .0) i e in
     let u = newest-used m g (x .drive) (x .block .0) (v .slots-ok) i n in
-    record { answers = e; slot-in = n .inside; same-len = l; limited = omega (arith, u .len-high) }
+    record { answers = e; slot-in = n .inside; same-len = l; limited = omega (arith, u .fits .len-high) }
 
 -- where the checks from 4 on pass the operation does something, and that is granted
 pub record Grants (o : Op) (m : List ℕ) (g : Geometry) (t : ℕ) (k : Command) (s : List ℕ) (r : ℕ) : Type 0 where

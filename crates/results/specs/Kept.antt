@@ -30,4 +30,4 @@ module _ (s t : List ℕ) (g : Geometry) (p : Placed g) (e : slotBytes t g ≡ s
       ∙ map-same (resultAt t g) (resultAt s g) (byAge s g)
       (λ i m. let b = ages-in g (slotOf s g) h i m in
       let w = h .used i (b .0) (b .1) in
-      result-same s t g i (slotOf s g i .rank) (kept-slot s t g p e i (b .0)) (kept-data s t g p e i (slotOf s g i .len) (b .0) (w .len-high)))
+      result-same s t g i (slotOf s g i .rank) (kept-slot s t g p e i (b .0)) (kept-data s t g p e i (slotOf s g i .len) (b .0) (w .fits .len-high)))

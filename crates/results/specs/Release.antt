@@ -90,7 +90,7 @@ module _ (s : List ℕ) (g : Geometry) (f : Framed s g) (ok : slotsOk s g ≡ tr
       left i li ui ne =
           let w = right s g ok .used i li ui in
           result-same s (released s g x) g i (lowerRank (slotOf s g x .rank) (slotOf s g i .rank)) (release-slot i li ne)
-          (release-part s g x (dataAt g i) (slotOf s g i .len * g .l) l (outside-data g i (slotOf s g i .len) (w .len-high)))
+          (release-part s g x (dataAt g i) (slotOf s g i .len * g .l) l (outside-data g i (slotOf s g i .len) (w .fits .len-high)))
 
       -- just this one is taken out
       pub release-results : results (released s g x) g ≡ map (resultAt s g) (without x (byAge s g))

@@ -1,5 +1,5 @@
 -- The retained results of an image as a list by age, newest first.
-use Prim.Native.Nat.{ℕ, _+_, _*_, _≤_, _<_}
+use Prim.Native.Nat.{ℕ, _*_, _<_}
 use mathlib.Core.Bool.{true}
 use mathlib.Core.Path.{_≡_, ap, _∙_}
 use mathlib.Core.List.{List, map, List·Memᴰ, Memᴰ·of-map}
@@ -13,7 +13,7 @@ use Rattle.slots.specs.declared.Slot.{Slot}
 use Rattle.slots.specs.Record.{slotOf}
 use Rattle.slots.specs.RecordLaws.{ranked}
 use Rattle.slots.specs.Slots.{usedCount, slotsOk}
-use Rattle.slots.specs.Facts.{Used, right}
+use Rattle.slots.specs.Facts.{Fits, Used, right}
 use Rattle.slots.specs.Change.{entry, retained}
 use Rattle.results.specs.Ages.{ages}
 use Rattle.results.specs.Members.{ages-in}
@@ -50,12 +50,7 @@ withResult m g r = retained m g (r .kind) (r .drive) (r .block) (r .len) (r .byt
 
 -- a result that a slot can hold
 pub record Sound (g : Geometry) (r : Result) : Type 0 where
-  pub kind-low : 1 ≤ r .kind
-  pub kind-high : r .kind ≤ 2
-  pub drive-in : r .drive < g .d
-  pub len-low : 1 ≤ r .len
-  pub len-high : r .len ≤ g .m
-  pub range-in : r .block + r .len ≤ g .b
+  pub fits : Fits g (r .kind) (r .drive) (r .block) (r .len)
   pub exact : length (r .bytes) ≡ r .len * g .l
 
 -- a slot of another rank with the same data holds the same result
@@ -70,13 +65,8 @@ module _ (m : List ℕ) (g : Geometry) (f : Framed m g) (ok : slotsOk m g ≡ tr
   unfolding resultAt
   slot-sound i l w =
       record {
-        kind-low = w .kind-low;
-        kind-high = w .kind-high;
-        drive-in = w .drive-in;
-        len-low = w .len-low;
-        len-high = w .len-high;
-        range-in = w .range-in;
-        exact = length-part m (dataAt g i) (slotOf m g i .len * g .l) (data-in m g i (slotOf m g i .len) f l (w .len-high));
+        fits = w .fits;
+        exact = length-part m (dataAt g i) (slotOf m g i .len * g .l) (data-in m g i (slotOf m g i .len) f l (w .fits .len-high));
       }
 
   pub results-sound : (r : Result) → List·Memᴰ r (results m g) → Sound g r

@@ -60,7 +60,7 @@ module _ (s : List ℕ) (g : Geometry) (f : Framed s g) (ok : slotsOk s g ≡ tr
       length-append (bytesOf (newRecord s g r)) (r .bytes) ∙ ap₂ (λ (a b : ℕ). a + b) (length-bytes (newRecord s g r)) (w .exact)
 
   room : slotAt g x + (16 + r .len * g .l) ≤ length s
-  room = omega (arith, data-in s g x (r .len) f inside (w .len-high))
+  room = omega (arith, data-in s g x (r .len) f inside (w .fits .len-high))
 
   small : Small (newRecord s g r)
   small =
@@ -77,17 +77,12 @@ module _ (s : List ℕ) (g : Geometry) (f : Framed s g) (ok : slotsOk s g ≡ tr
   filled-x = slot-put s g x (omega (arith, room)) (newRecord s g r) (r .bytes) (omega (arith, room)) small
 
   filled-other : (j : ℕ) → (j ≡ x → ⊥) → slotOf (filled s g x r) g j ≡ slotOf s g j
-  filled-other j ne = slot-other s g x j _ ne (omega (arith, size, data-ends g x (r .len) (w .len-high)))
+  filled-other j ne = slot-other s g x j _ ne (omega (arith, size, data-ends g x (r .len) (w .fits .len-high)))
 
   new-used : Used g (usedCount s g + 1) (newRecord s g r)
   new-used =
       record {
-        kind-low = w .kind-low;
-        kind-high = w .kind-high;
-        drive-in = w .drive-in;
-        len-low = w .len-low;
-        len-high = w .len-high;
-        range-in = w .range-in;
+        fits = w .fits;
         last-zero = refl;
         rank-low = omega arith;
         rank-high = omega arith;
@@ -113,7 +108,7 @@ module _ (s : List ℕ) (g : Geometry) (f : Framed s g) (ok : slotsOk s g ≡ tr
   retain-away a n o =
       retain-part a n
       (⊎-elim (λ l. inl (omega (arith, slot-after-front g x)))
-      (λ l. inr (omega (arith, data-ends g x (r .len) (w .len-high), slot-before-media g x (f .placed) inside)))
+      (λ l. inr (omega (arith, data-ends g x (r .len) (w .fits .len-high), slot-before-media g x (f .placed) inside)))
       o)
 
   pub retain-ok : slotsOk (withResult s g r) g ≡ true
@@ -133,8 +128,8 @@ module _ (s : List ℕ) (g : Geometry) (f : Framed s g) (ok : slotsOk s g ≡ tr
       let ne : i ≡ x → ⊥ = (λ q. true≢false (sym u ∙ ap (λ (j : ℕ). isUsed (slotOf s g j)) q ∙ empty-inside s g x e .1)) in
       result-same s (filled s g x r) g i (slotOf s g i .rank) (filled-other i ne)
       (part-put-apart s (slotAt g x) _ (dataAt g i) (slotOf s g i .len * g .l)
-      (⊎-elim (λ b. inl (omega (arith, data-ends g i (slotOf s g i .len) (v .len-high))))
-      (λ b. inr (omega (arith, size, data-ends g x (r .len) (w .len-high))))
+      (⊎-elim (λ b. inl (omega (arith, data-ends g i (slotOf s g i .len) (v .fits .len-high))))
+      (λ b. inr (omega (arith, size, data-ends g x (r .len) (w .fits .len-high))))
       (slots-apart g i x ne)))
 
   -- "A new result takes the lowest-numbered empty slot and rank k+1": it is the newest, and the others stay as they are

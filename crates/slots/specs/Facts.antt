@@ -3,7 +3,7 @@ use mathlib.Core.Path.{_≡_, sym, ap, _∙_}
 use mathlib.Core.Logic.{⊎-elim}
 use mathlib.Core.List.{List}
 use mathlib.Core.Bool.{Bool, true, false, not}
-use Prim.Native.Nat.{ℕ, _+_, _≤_, _<_}
+use Prim.Native.Nat.{ℕ, _≤_, _<_}
 use native.Mathlib.Omega.{arith}
 use borrow.Author.Tests.{leb-true, ltb-true, eqb-true, eqb-false, le-leb, lt-ltb, eq-eqb, ne-eqb, not-true, not-false}
 use Rattle.folds.specs.Cases.{either, same, apart as differ}
@@ -13,18 +13,23 @@ use Rattle.folds.specs.declared.Found.the-variants.{At}
 use Rattle.folds.specs.Least.{least-inside}
 use Rattle.rules.specs.Must.{testsOf}
 use Rattle.geometry.specs.declared.Geometry.{Geometry}
+use Rattle.geometry.specs.Places.{Range}
 use Rattle.slots.specs.declared.Slot.{Slot}
 use Rattle.slots.specs.Record.{slotOf, zeroSlot, isUsed}
 use Rattle.slots.specs.Find.{emptySlot}
 use Rattle.slots.specs.Slots.{emptyMusts, usedMusts, slotOk, usedIn, rankIn, newRank, slotsOk}
 
+-- a slot can hold a result of that kind, of len blocks of the drive from the block on
+pub record Fits (g : Geometry) (kind drive block len : ℕ) : Type 0 where
+  pub kind-low : 1 ≤ kind
+  pub kind-high : kind ≤ 2
+  pub range : Range g drive block len
+  pub len-low : 1 ≤ len
+  pub len-high : len ≤ g .m
+
+-- a used slot is right, among k results
 pub record Used (g : Geometry) (k : ℕ) (r : Slot) : Type 0 where
-  pub kind-low : 1 ≤ r .kind
-  pub kind-high : r .kind ≤ 2
-  pub drive-in : r .drive < g .d
-  pub len-low : 1 ≤ r .len
-  pub len-high : r .len ≤ g .m
-  pub range-in : r .block .0 + r .len ≤ g .b
+  pub fits : Fits g (r .kind) (r .drive) (r .block .0) (r .len)
   pub last-zero : r .last ≡ 0
   pub rank-low : 1 ≤ r .rank
   pub rank-high : r .rank ≤ k
@@ -36,12 +41,14 @@ module _ (g : Geometry) (k : ℕ) (new : Bool) (r : Slot) where
         record {
           rank-low = leb-true _ _ (holds _ 0 e);
           rank-high = leb-true _ _ (holds _ 1 e);
-          kind-low = leb-true _ _ (holds _ 3 e);
-          kind-high = leb-true _ _ (holds _ 4 e);
-          drive-in = ltb-true _ _ (holds _ 5 e);
-          len-low = leb-true _ _ (holds _ 6 e);
-          len-high = leb-true _ _ (holds _ 7 e);
-          range-in = leb-true _ _ (holds _ 8 e);
+          fits =
+              record {
+                kind-low = leb-true _ _ (holds _ 3 e);
+                kind-high = leb-true _ _ (holds _ 4 e);
+                range = record { drive-in = ltb-true _ _ (holds _ 5 e); range-in = leb-true _ _ (holds _ 8 e) };
+                len-low = leb-true _ _ (holds _ 6 e);
+                len-high = leb-true _ _ (holds _ 7 e);
+              };
           last-zero = eqb-true _ _ (holds _ 9 e);
         },
         holds _ 2 e,
@@ -49,6 +56,7 @@ module _ (g : Geometry) (k : ℕ) (new : Bool) (r : Slot) where
 
   used-ok : isUsed r ≡ true → Used g k r → new ≡ true → slotOk g k new r ≡ true
   used-ok u h n =
+      let w = h .fits in
       rw u
       (every-of (testsOf (usedMusts g k new zeroSlot r)) (
         le-leb _ _ (h .rank-low),
@@ -57,14 +65,14 @@ module _ (g : Geometry) (k : ℕ) (new : Bool) (r : Slot) where
           (
             n,
             (
-              le-leb _ _ (h .kind-low),
+              le-leb _ _ (w .kind-low),
               (
-                le-leb _ _ (h .kind-high),
+                le-leb _ _ (w .kind-high),
                 (
-                  lt-ltb _ _ (h .drive-in),
+                  lt-ltb _ _ (w .range .drive-in),
                   (
-                    le-leb _ _ (h .len-low),
-                    (le-leb _ _ (h .len-high), (le-leb _ _ (h .range-in), (eq-eqb _ _ (h .last-zero), tt))),
+                    le-leb _ _ (w .len-low),
+                    (le-leb _ _ (w .len-high), (le-leb _ _ (w .range .range-in), (eq-eqb _ _ (h .last-zero), tt))),
                   ),
                 ),
               ),

@@ -26,18 +26,13 @@ not-rank n r never = ⊎-elim (λ t. let b = rank-has n r t in absurd (never (b 
 
 -- a kind that is not 0
 pub used-is : (g : Geometry) (k : ℕ) (r : Slot) → Used g k r → isUsed r ≡ true
-used-is g k r h = ap not (ne-eqb (r .kind) 0 (λ e. omega arith))
+used-is g k r h = ap not (ne-eqb (r .kind) 0 (λ e. omega (arith, h .fits .kind-low)))
 
 -- a used slot at another rank, among another number of results
 pub used-ranked : (g : Geometry) (k k′ n : ℕ) (r : Slot) → Used g k r → 1 ≤ n → n ≤ k′ → Used g k′ (ranked n r)
 used-ranked g k k′ n r w a b =
     record {
-      kind-low = w .kind-low;
-      kind-high = w .kind-high;
-      drive-in = w .drive-in;
-      len-low = w .len-low;
-      len-high = w .len-high;
-      range-in = w .range-in;
+      fits = w .fits;
       last-zero = w .last-zero;
       rank-low = a;
       rank-high = b;
