@@ -7,8 +7,14 @@
  *   shelf_reset   hard reset of a drive: drops the results that it retains
  *   shelf_mark    marks a drive present or failed
  *
- * Any lengths and any bytes are safe to pass. A call reads and writes only what it is lent, always returns, and answers with a
- * number. It allocates nothing and keeps nothing: no pointer, no copy, no state. All that a shelf remembers is in its image.
+ * Two more know nothing of a shelf: they XOR blocks, and an interrupt handler may call them.
+ *
+ *   shelf_xor        XORs a block into another
+ *   shelf_xor_four   XORs four blocks into another, in one pass
+ *
+ * Any lengths and any bytes are safe to pass. A call reads and writes only what it is lent, and always returns; the first three
+ * answer with a number. It allocates nothing and keeps nothing: no pointer, no copy, no state. All that a shelf remembers is in its
+ * image.
  *
  * A buffer is a pointer, at any alignment, and the count of its bytes. What a call cannot see is up to the caller:
  *
@@ -21,7 +27,7 @@
  *     cc driver.c DIR/libshelf_c.a
  *     cc driver.c -LDIR -lshelf_c
  *
- * The library needs nothing but the C library's memory functions (memcpy, memmove, memset).
+ * The library needs nothing but the C library's memory functions (memcpy, memmove, memset), and the XOR of blocks not even these.
  */
 #ifndef SHELF_H
 #define SHELF_H
@@ -67,7 +73,7 @@ extern "C" {
  */
 
 /*
- * What the three functions return: a SCSI status as itself, or 256 + n for a call that is wrong in itself, by its number n.
+ * What the first three functions return: a SCSI status as itself, or 256 + n for a call that is wrong in itself, by its number n.
  * Anything but SHELF_GOOD, from any of the three, leaves image and receive room as they were.
  */
 #define SHELF_GOOD 0            /* carried out */
@@ -203,6 +209,34 @@ uint32_t shelf_reset(uint8_t *image, size_t image_len, uint32_t target);
  * results stay. Returns SHELF_GOOD, SHELF_BAD_IMAGE, SHELF_BAD_TARGET or SHELF_BAD_STATE.
  */
 uint32_t shelf_mark(uint8_t *image, size_t image_len, uint32_t target, uint32_t state);
+
+/*
+ * XORs the bytes of `from` into those of `into`, as many as both have; the rest of `into` stays. It is the routine by which the
+ * commands XOR a block into another.
+ *
+ * An interrupt handler may call it on a small stack, and count on this of it and of shelf_xor_four, at every length:
+ *
+ * - It has at most 64 bytes of locals. With them comes what the call itself takes: on x86-64 the return address, 8 bytes, and 32 for
+ *   the arguments of shelf_xor_four that find no register; on Arm 16 for these. Nothing below the stack pointer is touched. As built
+ *   now that is, in all:
+ *
+ *                      x86-64   Arm
+ *     shelf_xor             8     0
+ *     shelf_xor_four       88    16
+ *
+ * - It calls nothing, not even the C library, and waits for nothing. Its time grows with the bytes that it XORs.
+ * - It may interrupt any call of this library, one of its own too, where the two share no buffer. So a handler does not XOR into an
+ *   image, or out of one, that is lent to a call under way.
+ * - It changes what the machine's C calls may change, vector registers among them: a handler saves these, or has them saved, first.
+ */
+void shelf_xor(uint8_t *into, size_t into_len, const uint8_t *from, size_t from_len);
+
+/*
+ * XORs the bytes of `a`, `b`, `c` and `d` into those of `into`, as many as all five have; the rest of `into` stays. In one pass, so
+ * that `into` is read and written once and not four times; REBUILD and REGENERATE go by it. What is said of shelf_xor holds of it.
+ */
+void shelf_xor_four(uint8_t *into, size_t into_len, const uint8_t *a, size_t a_len, const uint8_t *b, size_t b_len,
+                    const uint8_t *c, size_t c_len, const uint8_t *d, size_t d_len);
 
 #ifdef __cplusplus
 }

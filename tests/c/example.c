@@ -53,8 +53,7 @@ static void say_rows(const char *when) {
         say(row == 0 ? "    row 0 " : "    row 1 ");
         for (size_t drive = 0; drive < DRIVES; drive++) {
             const uint8_t *block = image + MEDIA + (drive * BLOCKS + row) * LENGTH;
-            for (size_t i = 0; i < LENGTH; i++)
-                sum[i] ^= block[i];
+            shelf_xor(sum, sizeof sum, block, LENGTH);
             say(" ");
             say_bytes(block, LENGTH);
         }

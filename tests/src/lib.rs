@@ -1,10 +1,11 @@
 //! The C interface of the XOR shelf, called so that tests can trust what they see.
 //!
-//! - [`c`] declares the three functions as `include/shelf.h` does,
+//! - [`c`] declares the functions as `include/shelf.h` does,
 //! - [`through_c`] makes a call of `second` through them: each buffer stands between
 //!   guard bytes, which are looked at after the call,
 //! - [`agree`] makes a call through them and by `second`, and both must leave the same
-//!   bytes.
+//!   bytes,
+//! - [`blocks`] XORs blocks through them, between guard bytes too.
 //!
 //! The rest has the names and shapes of `second`, so that the tests of `second` can
 //! be built over this crate in its place: each of their calls is then one that must
@@ -15,6 +16,7 @@
 
 mod agree;
 mod as_second;
+pub mod blocks;
 pub mod c;
 mod lent;
 mod lines;

@@ -162,6 +162,9 @@ fn the_functions_are_declared_as_they_are_linked() {
          uint8_t *room, size_t room_len, uint8_t *sense, size_t sense_len, uint32_t *count);",
         "uint32_t shelf_reset(uint8_t *image, size_t image_len, uint32_t target);",
         "uint32_t shelf_mark(uint8_t *image, size_t image_len, uint32_t target, uint32_t state);",
+        "void shelf_xor(uint8_t *into, size_t into_len, const uint8_t *from, size_t from_len);",
+        "void shelf_xor_four(uint8_t *into, size_t into_len, const uint8_t *a, size_t a_len, \
+         const uint8_t *b, size_t b_len, const uint8_t *c, size_t c_len, const uint8_t *d, size_t d_len);",
     ] {
         assert!(text.contains(function), "{function}");
     }

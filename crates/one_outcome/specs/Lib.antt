@@ -1,6 +1,5 @@
 pub mod Only
 pub mod Octets
-pub mod Leaf
 pub mod Geometry
 pub mod Drives
 pub mod Slots

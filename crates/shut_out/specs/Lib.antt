@@ -2,4 +2,5 @@ pub mod Valid
 pub mod Step
 pub mod Calls
 pub mod Interface
+pub mod Blocks
 pub mod Listing
