@@ -1,6 +1,7 @@
-//! The three calls of the C interface.
+//! The calls of the C interface.
 
 use crate::act::perform;
+use crate::bytes::xor_into;
 use crate::decide::{decide, find_target, Request};
 use crate::geometry::Geometry;
 use crate::refusal::Refusal;
@@ -89,4 +90,18 @@ pub fn decide_mark(
 pub fn has_results(shelf: &Shelf, drive: usize) -> bool {
     let mut records = shelf.records.iter();
     records.any(|r| !r.is_empty() && usize::from(r.drive) == drive)
+}
+
+/// XORs a block into another, as many bytes as both have.
+pub fn xor(into: &mut [u8], from: &[u8]) {
+    xor_into(into, from);
+}
+
+/// XORs four blocks into another, as many bytes as all five have.
+pub fn xor_four(into: &mut [u8], operands: [&[u8]; 4]) {
+    let lengths = operands.iter().map(|operand| operand.len());
+    let common = lengths.fold(into.len(), usize::min);
+    for operand in operands {
+        xor_into(&mut into[..common], operand);
+    }
 }

@@ -12,7 +12,8 @@
 //! - `act` carries the act out on the image.
 //!
 //! [`step`], [`reset`] and [`mark`] behave as the calls of the C interface do:
-//! a status comes back as itself and call number n as 256 + n. [`listing`] and
+//! a status comes back as itself and call number n as 256 + n. So do [`xor`] and
+//! [`xor_four`], which XOR blocks by themselves (A3). [`listing`] and
 //! [`rows`] are the row program. [`Call::reached`] tells which refusal or which
 //! kind of GOOD decides a call, and [`Way`] by which command, so that tests can
 //! count what they have seen.
@@ -49,7 +50,7 @@ mod sense;
 mod shelf;
 mod way;
 
-pub use calls::{mark, reset, step};
+pub use calls::{mark, reset, step, xor, xor_four};
 pub use case::{Call, Case, Outcome, Reached, StepCall, StepOutcome};
 pub use good::Good;
 pub use lines::{answer_line, case_line, parse_line, BAD_LINE};

@@ -7,15 +7,13 @@ typedef unsigned long count;
 
 void other_leaf(byte *into, const byte *from, count n);
 
-void thin(byte *into, const byte *from, count n)
-{
+void thin(byte *into, const byte *from, count n) {
     for (count i = 0; i < n; i++)
         into[i] ^= from[i];
 }
 
 /* It goes through a local copy of the block. */
-void through_a_copy(byte *into, const byte *from, count n)
-{
+void through_a_copy(byte *into, const byte *from, count n) {
     byte copy[4096];
     n = n < sizeof copy ? n : sizeof copy;
     for (count i = 0; i < n; i++)
@@ -27,8 +25,7 @@ void through_a_copy(byte *into, const byte *from, count n)
 }
 
 /* It goes through a copy of a few bytes at a time: too many, and where the stack has a red zone, below the stack pointer. */
-void through_pieces(byte *into, const byte *from, count n)
-{
+void through_pieces(byte *into, const byte *from, count n) {
     volatile byte piece[80];
     for (count at = 0; at + sizeof piece <= n; at += sizeof piece) {
         for (count i = 0; i < sizeof piece; i++)
@@ -39,8 +36,7 @@ void through_pieces(byte *into, const byte *from, count n)
 }
 
 /* Its stack grows with the length. */
-void growing(byte *into, const byte *from, count n)
-{
+void growing(byte *into, const byte *from, count n) {
     volatile byte copy[n + 1];
     for (count i = 0; i < n; i++)
         copy[i] = from[i];
@@ -48,9 +44,8 @@ void growing(byte *into, const byte *from, count n)
         into[i] ^= copy[i];
 }
 
-/* So does the stack of one that calls itself. */
-void calling_itself(byte *into, const byte *from, count n)
-{
+/* So does that of one which calls itself. */
+void calling_itself(byte *into, const byte *from, count n) {
     if (n == 0)
         return;
     calling_itself(into + 1, from + 1, n - 1);
@@ -58,20 +53,17 @@ void calling_itself(byte *into, const byte *from, count n)
 }
 
 /* It calls another function, or ends in one. */
-void calling_out(byte *into, const byte *from, count n)
-{
+void calling_out(byte *into, const byte *from, count n) {
     other_leaf(into, from, n);
     thin(into, from, n);
 }
 
-void ending_elsewhere(byte *into, const byte *from, count n)
-{
+void ending_elsewhere(byte *into, const byte *from, count n) {
     other_leaf(into, from, n);
 }
 
 /* It goes byte by byte. */
-void slow(byte *into, const byte *from, count n)
-{
+void slow(byte *into, const byte *from, count n) {
 #pragma clang loop vectorize(disable) unroll(disable)
     for (count i = 0; i < n; i++)
         into[i] ^= from[i];

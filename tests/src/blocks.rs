@@ -1,45 +1,52 @@
-//! The XOR of blocks through the C interface.
+//! The XOR of blocks, made through the C interface and by `second`: both must leave the same bytes.
 
 use crate::c::{shelf_xor, shelf_xor_four};
 use crate::lent::Lent;
+use crate::through_c::Empty;
 
-/// What `shelf_xor` leaves of a block; it writes nothing else.
-pub fn xor(into: &[u8], from: &[u8]) -> Vec<u8> {
-    let (mut taking, mut given) = (Lent::new("block", into), Lent::new("operand", from));
-    // SAFETY: each pointer and length are those of one buffer, and the two share no byte.
-    unsafe {
-        shelf_xor(
-            taking.place_or_null(),
-            taking.len(),
-            given.place_or_null(),
-            given.len(),
-        );
-    }
-    given.back_unchanged(from);
-    taking.back()
+/// `shelf_xor`, which writes nothing but the block.
+pub fn xor(into: &mut [u8], from: &[u8]) {
+    let due = |block: &mut [u8]| second::xor(block, from);
+    both(into, [from], due, |taking, [given]| {
+        // SAFETY: each pointer and length are those of one buffer, and the two share no byte.
+        unsafe { shelf_xor(taking.0, taking.1, given.0, given.1) }
+    });
 }
 
-/// What `shelf_xor_four` leaves of a block; it writes nothing else.
-pub fn xor_four(into: &[u8], operands: [&[u8]; 4]) -> Vec<u8> {
-    let mut taking = Lent::new("block", into);
-    let [mut a, mut b, mut c, mut d] = operands.map(|bytes| Lent::new("operand", bytes));
-    // SAFETY: as above.
-    unsafe {
-        shelf_xor_four(
-            taking.place_or_null(),
-            taking.len(),
-            a.place_or_null(),
-            a.len(),
-            b.place_or_null(),
-            b.len(),
-            c.place_or_null(),
-            c.len(),
-            d.place_or_null(),
-            d.len(),
+/// `shelf_xor_four`, likewise.
+pub fn xor_four(into: &mut [u8], operands: [&[u8]; 4]) {
+    let due = |block: &mut [u8]| second::xor_four(block, operands);
+    both(into, operands, due, |taking, [a, b, c, d]| {
+        // SAFETY: as above.
+        unsafe { shelf_xor_four(taking.0, taking.1, a.0, a.1, b.0, b.1, c.0, c.1, d.0, d.1) }
+    });
+}
+
+/// Lends the block and the operands, each between guard bytes, once with NULL for those of no
+/// bytes.
+fn both<const N: usize>(
+    into: &mut [u8],
+    operands: [&[u8]; N],
+    due: impl Fn(&mut [u8]),
+    call: impl Fn((*mut u8, usize), [(*const u8, usize); N]),
+) {
+    let before = into.to_vec();
+    due(into);
+    for empty in [Empty::Null, Empty::Place] {
+        let mut taking = Lent::new("block", &before);
+        let mut given = operands.map(|bytes| Lent::new("operand", bytes));
+        let places = given
+            .each_mut()
+            .map(|lent| (empty.pointer(lent).cast_const(), lent.len()));
+        call((empty.pointer(&mut taking), before.len()), places);
+        for (lent, bytes) in given.into_iter().zip(operands) {
+            lent.back_unchanged(bytes);
+        }
+        let lengths = operands.map(<[u8]>::len);
+        assert!(
+            taking.back() == into,
+            "{} and {lengths:?} bytes",
+            before.len()
         );
     }
-    for (lent, bytes) in [a, b, c, d].into_iter().zip(operands) {
-        lent.back_unchanged(bytes);
-    }
-    taking.back()
 }

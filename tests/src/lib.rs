@@ -4,8 +4,7 @@
 //! - [`through_c`] makes a call of `second` through them: each buffer stands between
 //!   guard bytes, which are looked at after the call,
 //! - [`agree`] makes a call through them and by `second`, and both must leave the same
-//!   bytes,
-//! - [`blocks`] XORs blocks through them, between guard bytes too.
+//!   bytes; [`xor`] and [`xor_four`], which take no image, do the same.
 //!
 //! The rest has the names and shapes of `second`, so that the tests of `second` can
 //! be built over this crate in its place: each of their calls is then one that must
@@ -16,7 +15,7 @@
 
 mod agree;
 mod as_second;
-pub mod blocks;
+mod blocks;
 pub mod c;
 mod lent;
 mod lines;
@@ -24,6 +23,7 @@ mod through_c;
 
 pub use agree::agree;
 pub use as_second::{mark, reset, step, Call, StepCall};
+pub use blocks::{xor, xor_four};
 pub use lines::answer_line;
 pub use second::{case_line, listing, parse_line, rows};
 pub use second::{Good, Reached, Refusal, Shelf, StepOutcome, SENSE_SIZE};

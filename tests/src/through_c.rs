@@ -14,7 +14,7 @@ pub enum Empty {
 }
 
 impl Empty {
-    fn pointer(self, lent: &mut Lent) -> *mut u8 {
+    pub fn pointer(self, lent: &mut Lent) -> *mut u8 {
         match self {
             Empty::Place => lent.place(),
             Empty::Null => lent.place_or_null(),

@@ -8,6 +8,8 @@ extern crate shelf_tests as second;
 
 #[path = "../../second/tests/bench_cases.rs"]
 mod bench_cases;
+#[path = "../../second/tests/blocks.rs"]
+mod blocks;
 #[path = "../../second/tests/c_interface.rs"]
 mod c_interface;
 #[path = "../../second/tests/fields.rs"]

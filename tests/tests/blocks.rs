@@ -1,81 +1,61 @@
-//! `shelf_xor` and its form with four operands, against a plain loop and against the step.
+//! `shelf_xor` and its form with four operands: each call must agree with `second`, and the commands
+//! leave what they leave.
 
-use second::{Call, Outcome, StepCall};
-use shelf_tests::blocks::{xor, xor_four};
-use shelf_tests::{through_c, Empty};
+use second::{Call, Outcome, Random, StepCall};
+use shelf_tests::{through_c, xor, xor_four, Empty};
 
-/// Bytes that look random, others for each seed.
-fn bytes(seed: usize, count: usize) -> Vec<u8> {
-    let mut state = 0x9E37_79B9_7F4A_7C15_u64.wrapping_mul(seed as u64 + 1);
-    let mut next = || {
-        state ^= state << 13;
-        state ^= state >> 7;
-        state ^= state << 17;
-        (state >> 32) as u8
-    };
-    (0..count).map(|_| next()).collect()
+/// Blocks of these lengths.
+fn one(random: &mut Random, into: u64, from: u64) {
+    let from = random.bytes(from);
+    xor(&mut random.bytes(into), &from);
 }
 
-/// As many bytes as all have are XORed, and the rest stays.
-fn plain(into: &[u8], operands: &[&[u8]]) -> Vec<u8> {
-    let all = operands.iter().map(|bytes| bytes.len());
-    let common = all.chain([into.len()]).min().expect("a block");
-    let mut left = into.to_vec();
-    for i in 0..common {
-        for operand in operands {
-            left[i] ^= operand[i];
-        }
-    }
-    left
-}
-
-fn one(into_len: usize, from_len: usize) {
-    let (into, from) = (bytes(1, into_len), bytes(2, from_len));
-    let lengths = (into_len, from_len);
-    assert!(xor(&into, &from) == plain(&into, &[&from]), "{lengths:?}");
+fn four(random: &mut Random, into: u64, operands: [u64; 4]) {
+    let operands = operands.map(|length| random.bytes(length));
+    let operands = operands.each_ref().map(Vec::as_slice);
+    xor_four(&mut random.bytes(into), operands);
 }
 
 #[test]
 fn every_block_length() {
-    (4..=4096).step_by(4).for_each(|length| one(length, length));
-    one(65_535, 65_535);
+    let mut random = Random::new(301);
+    for length in (4..=4096).step_by(4).chain([0, 1, 3, 65_535]) {
+        one(&mut random, length, length);
+        four(&mut random, length, [length; 4]);
+    }
 }
 
 #[test]
 fn every_pair_of_short_lengths() {
+    let mut random = Random::new(302);
     for into in 0..=80 {
-        (0..=80).for_each(|from| one(into, from));
+        (0..=80).for_each(|from| one(&mut random, into, from));
     }
 }
 
 #[test]
-fn a_long_block_and_a_short_one() {
-    for (long, short) in [(4096, 0), (4096, 1), (4096, 512), (65_535, 4096)] {
-        one(long, short);
-        one(short, long);
-    }
-}
-
-fn four(lengths: [usize; 5]) {
-    let blocks: [Vec<u8>; 5] = std::array::from_fn(|n| bytes(n, lengths[n]));
-    let [into, a, b, c, d] = blocks.each_ref().map(Vec::as_slice);
-    let operands = [a, b, c, d];
-    assert!(
-        xor_four(into, operands) == plain(into, &operands),
-        "{lengths:?}"
-    );
-}
-
-#[test]
-fn four_of_one_length() {
-    (0..=4096).for_each(|length| four([length; 5]));
-}
-
-#[test]
-fn four_of_any_lengths() {
-    const LENGTHS: [usize; 8] = [0, 1, 3, 4, 31, 32, 37, 64];
+fn five_short_lengths() {
+    const LENGTHS: [u64; 8] = [0, 1, 3, 4, 31, 32, 37, 64];
+    let mut random = Random::new(303);
     for n in 0..LENGTHS.len().pow(5) {
-        four([0, 3, 6, 9, 12].map(|shift| LENGTHS[n >> shift & 7]));
+        let [into, a, b, c, d] = [0, 3, 6, 9, 12].map(|shift| LENGTHS[n >> shift & 7]);
+        four(&mut random, into, [a, b, c, d]);
+    }
+}
+
+/// Mostly the length of a short block, and at times a long one or none.
+fn length(random: &mut Random) -> u64 {
+    let most = random.number(&[0, 70, 70, 600, 600, 5_000, 70_000]);
+    random.between(0, most)
+}
+
+#[test]
+fn random_lengths() {
+    let mut random = Random::new(304);
+    for _ in 0..4_000 {
+        let [into, a, b, c, d] = [(); 5].map(|()| length(&mut random));
+        one(&mut random, into, a);
+        four(&mut random, into, [a, b, c, d]);
     }
 }
 
@@ -114,21 +94,27 @@ fn after(blocks: &[Vec<u8>; DRIVES], cdb: &[u8], data: &[u8]) -> Vec<Vec<u8>> {
 
 #[test]
 fn commands_leave_what_the_leaf_leaves() {
-    let blocks = [1, 2, 3, 4, 5, 6].map(|seed| bytes(seed, LENGTH));
-    let data = bytes(7, LENGTH);
+    let mut random = Random::new(305);
+    let blocks = [(); DRIVES].map(|()| random.bytes(LENGTH as u64));
+    let data = random.bytes(LENGTH as u64);
+    let xored = |into: &[u8], from: &[u8]| {
+        let mut block = into.to_vec();
+        xor(&mut block, from);
+        block
+    };
     let xpwrite = [0xC1, 0, 0, 0, 0, 0, 0, 0, 1, 0];
-    assert!(after(&blocks, &xpwrite, &data)[0] == xor(&blocks[0], &data));
+    assert!(after(&blocks, &xpwrite, &data)[0] == xored(&blocks[0], &data));
 
     let to_drive_2 = [0xC0, 0, 0, 0, 0, 0, 0, 1, 0, 0, 2, 0, 0, 0, 0, 0];
-    let result = xor(&blocks[0], &data);
-    assert!(after(&blocks, &to_drive_2, &data)[1] == xor(&blocks[1], &result));
+    let result = xored(&blocks[0], &data);
+    assert!(after(&blocks, &to_drive_2, &data)[1] == xored(&blocks[1], &result));
 
     for sources in [1, 2, 3, 4, 5] {
         let mut list = vec![sources as u8, 1, 0, 0, 0, 0, 0, 0];
         (2..=sources + 1).for_each(|address| list.extend([0, 0, 0, address as u8, 0, 0, 0, 0]));
         let rebuild = [0xC3, 0, 0, 0, 0, 1, 0, 0, list.len() as u8, 0];
         let others = blocks[1..=sources].iter();
-        let expected = others.fold(vec![0; LENGTH], |sum, block| xor(&sum, block));
+        let expected = others.fold(vec![0; LENGTH], |sum, block| xored(&sum, block));
         assert!(after(&blocks, &rebuild, &list)[0] == expected, "{sources}");
     }
 }
