@@ -232,8 +232,9 @@ uint32_t shelf_mark(uint8_t *image, size_t image_len, uint32_t target, uint32_t 
 void shelf_xor(uint8_t *into, size_t into_len, const uint8_t *from, size_t from_len);
 
 /*
- * XORs the bytes of `a`, `b`, `c` and `d` into those of `into`, as many as all five have; the rest of `into` stays. In one pass, so
- * that `into` is read and written once and not four times; REBUILD and REGENERATE go by it. What is said of shelf_xor holds of it.
+ * XORs the bytes of `a`, `b`, `c` and `d` into those of `into`, as many as all five have; the rest of `into` stays. With blocks of
+ * one length it leaves what four calls of shelf_xor leave, but reads and writes `into` once; REBUILD and REGENERATE go by it. What
+ * is said of shelf_xor holds of it.
  */
 void shelf_xor_four(uint8_t *into, size_t into_len, const uint8_t *a, size_t a_len, const uint8_t *b, size_t b_len,
                     const uint8_t *c, size_t c_len, const uint8_t *d, size_t d_len);

@@ -12,6 +12,7 @@ use std::hint::black_box;
 
 const LIMIT: usize = 64;
 const STACK: usize = 1 << 14;
+const COLOURS: [u8; 2] = [0x00, 0xFF];
 const HEADER: &str = include_str!("../../../include/shelf.h");
 
 /// How many words of a call go in registers, the others going on the stack; and the machine's column
@@ -119,7 +120,7 @@ unsafe fn stack_of(function: *const (), operands: usize, length: usize) -> usize
         .collect();
     let sum = |place: usize| blocks.iter().fold(0, |sum, block| sum ^ block[place]);
     let expected: Vec<u8> = (0..length).map(sum).collect();
-    let once = |colour| {
+    let once = |colour: u8| {
         let mut lent = blocks.clone();
         let words = lent
             .iter_mut()
@@ -132,7 +133,7 @@ unsafe fn stack_of(function: *const (), operands: usize, length: usize) -> usize
         );
         bytes
     };
-    once(0x00).max(once(0xFF))
+    COLOURS.map(once).into_iter().max().unwrap_or(0)
 }
 
 /// Every block length of a shelf, and lengths that none has.
@@ -152,10 +153,13 @@ fn told(name: &str) -> usize {
 
 /// Measures a function at every length, and says the most.
 fn measure(name: &str, function: *const (), operands: usize) {
-    // SAFETY: both functions take so many operands, and `nothing` takes anything.
-    let own = unsafe { touched(nothing as *const (), &vec![0; 2 + 2 * operands], 0x00) };
+    let words = vec![0; 2 + 2 * operands];
+    // SAFETY: `nothing` takes anything.
+    let alone = |colour| unsafe { touched(nothing as *const (), &words, colour) };
+    let own = COLOURS.map(alone).into_iter().max().unwrap_or(0);
+    // SAFETY: the function takes so many operands.
     let at = |length| unsafe { stack_of(function, operands, length) };
-    let most = lengths().into_iter().map(at).max().expect("a length");
+    let most = lengths().into_iter().map(at).max().unwrap_or(0);
     println!(
         "{name}: at most {most} bytes of stack at {} lengths, {own} of them the call's own",
         lengths().len()

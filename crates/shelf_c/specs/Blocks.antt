@@ -1,5 +1,5 @@
 -- The XOR of blocks of any lengths: as many bytes as all have are XORed, and the rest of the block that takes them stays.
-use mathlib.Core.Path.{_≡_, sym, ap, _∙_}
+use mathlib.Core.Path.{_≡_, refl, sym, ap, _∙_}
 use mathlib.Core.Logic.{_⊎_, inl, inr}
 use mathlib.Core.List.{List, [], _∷_, _++_}
 use Prim.Native.Nat.{ℕ, zero, suc, _≤_, _<_, min}
@@ -10,8 +10,8 @@ use lib.ListN.{length, getD, take, drop, length-take, take-append-drop}
 use Rattle.folds.specs.Cases.{order}
 use Rattle.folds.specs.Each.{EachIs}
 use Rattle.octets.specs.Part.{part, getD-part, part-whole, part-past}
-use Rattle.octets.specs.Xor.{_⊻_, xor-nil, getD-xor, part-xor}
-use Rattle.octets.specs.Operands.{xorAll, partsOf, part-xorAll}
+use Rattle.octets.specs.Xor.{_⊻_, xor-nil, length-xor-le, getD-xor, xor-regroups, part-xor}
+use Rattle.octets.specs.Operands.{xorAll, Long, length-xorAll-le, partsOf, part-xorAll}
 
 -- how many bytes d and each of xs have
 unfoldable pub common : List ℕ → List (List ℕ) → ℕ
@@ -71,3 +71,28 @@ module _ (d t : List ℕ) (n : ℕ) where
   -- where t has no more than n bytes, as with blocks of one length, it is the leaf's own equation
   pub whole-xored : length t ≤ n → d ⊻ part t 0 n ≡ d ⊻ t
   whole-xored h = ap (_⊻_ d) (part-whole t n h)
+
+-- ---- with blocks of one length, four at once are what four calls of `shelf_xor` leave
+
+unfoldable pub oneByOne : List ℕ → List (List ℕ) → List ℕ
+oneByOne d [] = d
+oneByOne d (x ∷ xs) = oneByOne (d ⊻ part x 0 (length d)) xs
+
+common-long : (d : List ℕ) (xs : List (List ℕ)) → Long (length d) xs → common d xs ≡ length d
+unfolding common
+common-long d [] h = refl
+common-long d (x ∷ xs) h = omega (arith, h .0, common-long d xs (h .1))
+
+in-turn : (n : ℕ) (d : List ℕ) (xs : List (List ℕ)) → length d ≡ n → Long n xs → d ⊻ xorAll xs ≡ oneByOne d xs
+unfolding oneByOne xorAll
+in-turn n d [] e h = xor-nil d
+in-turn n d (x ∷ xs) e h =
+    sym (xor-regroups d x (xorAll xs))
+    ∙ in-turn n (d ⊻ x) xs (length-xor-le d x (omega (arith, h .0)) ∙ e) (h .1)
+    ∙ ap (λ (r : List ℕ). oneByOne (d ⊻ r) xs) (sym (part-whole x (length d) (omega (arith, h .0))))
+
+pub as-one-by-one : (d : List ℕ) (xs : List (List ℕ)) → Long (length d) xs → d ⊻ part (xorAll xs) 0 (common d xs) ≡ oneByOne d xs
+as-one-by-one d xs h =
+    ap (λ (n : ℕ). d ⊻ part (xorAll xs) 0 n) (common-long d xs h)
+    ∙ whole-xored d (xorAll xs) (length d) (length-xorAll-le (length d) xs h)
+    ∙ in-turn (length d) d xs refl h
