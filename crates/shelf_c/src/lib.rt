@@ -4,15 +4,11 @@ use drives::Came;
 use geometry::Address;
 ghost use mathlib.Core.Path.{_≡_};
 ghost use mathlib.Core.List.{[], _∷_};
-ghost use lib.ListN.{length};
-ghost use Rattle.octets.specs.Part.{part};
-ghost use Rattle.octets.specs.Xor.{_⊻_};
-ghost use Rattle.octets.specs.Operands.{xorAll};
 ghost use Rattle.drives.specs.Table.{to};
 ghost use Rattle.sense.specs.Answers.{numberOf};
 ghost use Rattle.meaning.specs.Step.{resetAnswer, resetImage, markAnswer, markImage};
 ghost use Rattle.shelf_c.specs.Interface.{StepCall};
-ghost use Rattle.shelf_c.specs.Blocks.{common};
+ghost use Rattle.shelf_c.specs.Blocks.{xored, xoredAll};
 
 // How a call came: what the driver's numbers say of it.
 fn came_from(target: u32) -> Came
@@ -64,10 +60,11 @@ pub extern "C" fn shelf_mark(image: &mut [u8], target: u32, state: u32) -> u32
     sense::number(shelf::mark(image, came_from(target), state))
 }
 
-// The XOR leaf by itself, for an interrupt handler: as many bytes as both have are XORed, and the rest of `into` stays.
+// 02, A3: "The routine that XORs one block into another", by itself, for an interrupt handler. As many bytes as both have are
+// XORed, and the rest of `into` stays.
 #[no_mangle]
 pub extern "C" fn shelf_xor(into: &mut [u8], from: &[u8])
-    ensures { λ _. ⌜ now (into .exit) ≡ now (into .entry) ⊻ part (now (from .entry)) 0 (length (now (into .entry))) ⌝ }
+    ensures { λ _. ⌜ now (into .exit) ≡ xored (now (into .entry)) (now (from .entry)) ⌝ }
 {
     let n = octets::least(from.len(), into.len());
     octets::xor_into(&mut into[..n], &from[..n]);
@@ -76,7 +73,7 @@ pub extern "C" fn shelf_xor(into: &mut [u8], from: &[u8])
 // Its form with four operands: as many bytes as all five have are XORed, in one pass.
 #[no_mangle]
 pub extern "C" fn shelf_xor_four(into: &mut [u8], a: &[u8], b: &[u8], c: &[u8], d: &[u8])
-    ensures { λ _. ⌜ now (into .exit) ≡ now (into .entry) ⊻ part (xorAll (now (a .entry) ∷ now (b .entry) ∷ now (c .entry) ∷ now (d .entry) ∷ [])) 0 (common (now (into .entry)) (now (a .entry) ∷ now (b .entry) ∷ now (c .entry) ∷ now (d .entry) ∷ [])) ⌝ }
+    ensures { λ _. ⌜ now (into .exit) ≡ xoredAll (now (into .entry)) (now (a .entry) ∷ now (b .entry) ∷ now (c .entry) ∷ now (d .entry) ∷ []) ⌝ }
 {
     let two = octets::least(d.len(), into.len());
     let three = octets::least(c.len(), two);

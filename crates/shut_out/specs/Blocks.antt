@@ -4,18 +4,11 @@ use Prim.Native.Nat.{ℕ}
 use native.Mathlib.Omega.{arith}
 use mathlib.Core.List.{List, [], _∷_}
 use mathlib.Core.Path.{_≡_, ap}
-use lib.ListN.{length, getD}
+use lib.ListN.{getD}
 use Rattle.octets.specs.Part.{part}
 use Rattle.octets.specs.Xor.{_⊻_}
 use Rattle.octets.specs.Operands.{xorAll}
-use Rattle.shelf_c.specs.Blocks.{common}
-
--- the two contracts: d becomes e
-abbrev XorCall : List ℕ → List ℕ → List ℕ → Type 0
-XorCall d s e = e ≡ d ⊻ part s 0 (length d)
-
-abbrev FourCall : List ℕ → List (List ℕ) → List ℕ → Type 0
-FourCall d xs e = e ≡ d ⊻ part (xorAll xs) 0 (common d xs)
+use Rattle.shelf_c.specs.Blocks.{common, xored, xoredAll}
 
 -- a block of three bytes, and a shorter one, one as long and a longer one to XOR into it
 abbrev block : List ℕ
@@ -33,38 +26,38 @@ four = 0x10 ∷ 0x20 ∷ 0x40 ∷ 0x80 ∷ []
 -- ---- shelf_xor: 0E 31 51 with three, F0 3C 55 with two, 1F 13 15 with four
 
 -- it does nothing; nothing where the blocks differ in length
-pub idle-not : XorCall block three block → ⊥
+pub idle-not : block ≡ xored block three → ⊥
 unfolding _⊻_ part
 idle-not h = let z : _≡_ {A = ℕ} 0x0F 0x0E = ap (λ (l : List ℕ). getD l 0 0) h in omega arith
 
-pub shorter-left-not : XorCall block two block → ⊥
+pub shorter-left-not : block ≡ xored block two → ⊥
 unfolding _⊻_ part
 shorter-left-not h = let z : _≡_ {A = ℕ} 0x0F 0xF0 = ap (λ (l : List ℕ). getD l 0 0) h in omega arith
 
-pub longer-left-not : XorCall block four block → ⊥
+pub longer-left-not : block ≡ xored block four → ⊥
 unfolding _⊻_ part
 longer-left-not h = let z : _≡_ {A = ℕ} 0x0F 0x1F = ap (λ (l : List ℕ). getD l 0 0) h in omega arith
 
 -- it XORs the first byte only, or all but the last
-pub first-byte-only-not : XorCall block three (0x0E ∷ 0x33 ∷ 0x55 ∷ []) → ⊥
+pub first-byte-only-not : (0x0E ∷ 0x33 ∷ 0x55 ∷ []) ≡ xored block three → ⊥
 unfolding _⊻_ part
 first-byte-only-not h = let z : _≡_ {A = ℕ} 0x33 0x31 = ap (λ (l : List ℕ). getD l 1 0) h in omega arith
 
-pub last-byte-left-not : XorCall block three (0x0E ∷ 0x31 ∷ 0x55 ∷ []) → ⊥
+pub last-byte-left-not : (0x0E ∷ 0x31 ∷ 0x55 ∷ []) ≡ xored block three → ⊥
 unfolding _⊻_ part
 last-byte-left-not h = let z : _≡_ {A = ℕ} 0x55 0x51 = ap (λ (l : List ℕ). getD l 2 0) h in omega arith
 
 -- it copies; it takes OR for XOR
-pub copying-not : XorCall block three three → ⊥
+pub copying-not : three ≡ xored block three → ⊥
 unfolding _⊻_ part
 copying-not h = let z : _≡_ {A = ℕ} 0x01 0x0E = ap (λ (l : List ℕ). getD l 0 0) h in omega arith
 
-pub or-not : XorCall block two (0xFF ∷ 0x3F ∷ 0x55 ∷ []) → ⊥
+pub or-not : (0xFF ∷ 0x3F ∷ 0x55 ∷ []) ≡ xored block two → ⊥
 unfolding _⊻_ part
 or-not h = let z : _≡_ {A = ℕ} 0xFF 0xF0 = ap (λ (l : List ℕ). getD l 0 0) h in omega arith
 
 -- the rest does not stay
-pub rest-cleared-not : XorCall block two (0xF0 ∷ 0x3C ∷ 0x00 ∷ []) → ⊥
+pub rest-cleared-not : (0xF0 ∷ 0x3C ∷ 0x00 ∷ []) ≡ xored block two → ⊥
 unfolding _⊻_ part
 rest-cleared-not h = let z : _≡_ {A = ℕ} 0x00 0x55 = ap (λ (l : List ℕ). getD l 2 0) h in omega arith
 
@@ -74,25 +67,25 @@ abbrev operands : List (List ℕ)
 operands = three ∷ four ∷ (0x05 ∷ 0x06 ∷ 0x07 ∷ []) ∷ two ∷ []
 
 -- it does nothing
-pub four-idle-not : FourCall block operands block → ⊥
+pub four-idle-not : block ≡ xoredAll block operands → ⊥
 unfolding _⊻_ part xorAll common
 four-idle-not h = let z : _≡_ {A = ℕ} 0x0F 0xE4 = ap (λ (l : List ℕ). getD l 0 0) h in omega arith
 
 -- it takes the first operand only, or leaves the fourth out
-pub first-operand-only-not : FourCall block operands (0x0E ∷ 0x31 ∷ 0x55 ∷ []) → ⊥
+pub first-operand-only-not : (0x0E ∷ 0x31 ∷ 0x55 ∷ []) ≡ xoredAll block operands → ⊥
 unfolding _⊻_ part xorAll common
 first-operand-only-not h = let z : _≡_ {A = ℕ} 0x0E 0xE4 = ap (λ (l : List ℕ). getD l 0 0) h in omega arith
 
-pub fourth-left-out-not : FourCall block operands (0x1B ∷ 0x17 ∷ 0x55 ∷ []) → ⊥
+pub fourth-left-out-not : (0x1B ∷ 0x17 ∷ 0x55 ∷ []) ≡ xoredAll block operands → ⊥
 unfolding _⊻_ part xorAll common
 fourth-left-out-not h = let z : _≡_ {A = ℕ} 0x1B 0xE4 = ap (λ (l : List ℕ). getD l 0 0) h in omega arith
 
 -- it takes the third operand twice, and not the fourth
-pub third-twice-not : FourCall block operands (0x1E ∷ 0x11 ∷ 0x55 ∷ []) → ⊥
+pub third-twice-not : (0x1E ∷ 0x11 ∷ 0x55 ∷ []) ≡ xoredAll block operands → ⊥
 unfolding _⊻_ part xorAll common
 third-twice-not h = let z : _≡_ {A = ℕ} 0x1E 0xE4 = ap (λ (l : List ℕ). getD l 0 0) h in omega arith
 
 -- it goes on past the end of the shortest
-pub past-shortest-not : FourCall block operands (0xE4 ∷ 0x18 ∷ 0x16 ∷ []) → ⊥
+pub past-shortest-not : (0xE4 ∷ 0x18 ∷ 0x16 ∷ []) ≡ xoredAll block operands → ⊥
 unfolding _⊻_ part xorAll common
 past-shortest-not h = let z : _≡_ {A = ℕ} 0x16 0x55 = ap (λ (l : List ℕ). getD l 2 0) h in omega arith

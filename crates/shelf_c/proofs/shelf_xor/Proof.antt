@@ -31,7 +31,7 @@ returns c =
     let l = c .before .before .before .before .before in
     let d = l .before .before .before .args .into .now in
     let s = l .before .before .before .args .from .now in
-    front-back d s _ (l .least .result) (fits l .0) (c .before .before .xor-into .ensures)
+    front-back d s _ (l .least .result) (c .before .before .xor-into .ensures)
     ∙ ap (_⊻_ d) (ap (part s 0) (l .least .ensures) ∙ part-both d s)
 
 pub shelf-xor-spec : {M : Type 1} → statement M

@@ -49,7 +49,7 @@ returns : tie.Need-returns
 unfolding part partsOf
 returns c =
     let l = c .before .before .before .before .before .before .before .before in
-    front-all (into l) (four l) _ (l .least4 .result) (into-has l) (c .before .before .xor-four-into .ensures)
+    front-all (into l) (four l) _ (l .least4 .result) (c .before .before .xor-four-into .ensures)
     ∙ ap (λ (n : ℕ). into l ⊻ part (xorAll (four l)) 0 n) (all-have l)
 
 pub shelf-xor-four-spec : {M : Type 1} → statement M
