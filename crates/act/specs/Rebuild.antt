@@ -12,7 +12,7 @@ use Rattle.octets.specs.Xor.{_⊻_, nil-xor}
 use Rattle.geometry.specs.declared.Geometry.{Geometry}
 use Rattle.geometry.specs.Header.{slotAt}
 use Rattle.geometry.specs.Frame.{Framed}
-use Rattle.geometry.specs.Places.{place-after-media, places-apart, slot-before-media, data-ends, data-in}
+use Rattle.geometry.specs.Places.{place-after-media, places-apart, slot-after-front, slot-before-media, data-ends, data-in}
 use Rattle.slots.specs.Record.{bytesOf}
 use Rattle.slots.specs.Slots.{usedCount}
 use Rattle.slots.specs.Change.{entry}
@@ -63,6 +63,7 @@ module _ (s : List ℕ) (g : Geometry) (x : Span) (j : Summing) (sent : List ℕ
         some-source = omega (arith, h .some-source);
         exact = λ q. omega (arith, int-exact s g x j sent frame h q);
         own-in = a;
+        past-table = omega (arith, p, span-after-media g x, frame .placed .slots-end);
         to-in = a;
         own-apart = λ (q : false ≡ true). absurd (true≢false (sym q));
         inside = inside;
@@ -93,6 +94,7 @@ module _ (s : List ℕ) (g : Geometry) (x : Span) (j : Summing) (sent : List ℕ
           some-source = omega (arith, h .some-source);
           exact = λ q. omega (arith, int-exact s g x j sent frame h q);
           own-in = omega (arith, span-in s g x frame (b .range));
+          past-table = omega (arith, slot-after-front g i);
           to-in = omega (arith, data-in s g i (x .count) frame (k .slot-in) m);
           own-apart = λ o. inr (omega arith);
           inside = inside;

@@ -37,13 +37,14 @@ pub record Listed (s : List ℕ) (g : Geometry) (a : Came) (sent : List ℕ) (n 
   pub long : 8 + 8 * n ≤ length sent
   pub each : (i : ℕ) → i < n → Named s g a (sourceOf sent i)
 
--- every operand lies in the image, and apart from where the XOR goes
+-- every operand lies in the image, apart from where the XOR goes, and so does what says where each lies
 pub record Ready (s : List ℕ) (g : Geometry) (sent : List ℕ) (j : Job) : Type 0 where
   pub listed : Listed s g (j .sum .came) sent (j .sources)
   pub counted : j .sources ≡ getD sent 0 0
   pub some-source : 1 ≤ j .sources
   pub exact : eqb (j .sum .int) 0 ≡ false → length sent ≡ 8 + 8 * j .sources + size g j
   pub own-in : j .from + size g j ≤ length s
+  pub past-table : g .slots ≤ j .to
   pub to-in : j .to + size g j ≤ length s
   pub own-apart : j .own ≡ true → Apart (j .from) (j .to) (size g j)
   pub inside : (i : ℕ) → i < j .sources → startOf s g (j .sum .came) (sourceOf sent i) + size g j ≤ length s

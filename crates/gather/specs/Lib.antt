@@ -1,6 +1,7 @@
 pub mod Job
 pub mod Starts
 pub mod Pieces
-pub mod Steps
-pub mod Turns
 pub mod Whole
+pub mod InTurn
+pub mod AtOnce
+pub mod Turns

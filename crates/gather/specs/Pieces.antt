@@ -1,50 +1,43 @@
 -- A piece of the XOR: k bytes of each operand, from byte o of it on.
-use Prim.Native.Nat.{ℕ, zero, suc, _+_, _*_, _≤_, _<_}
+use Prim.Native.Nat.{ℕ, _+_, _<_}
 use mathlib.Core.Path.{_≡_}
-use mathlib.Core.Bool.{Bool, true, false, cond}
-use mathlib.Core.List.{List, [], _∷_}
-use lib.Dec.{eqb, ltb}
+use mathlib.Core.Bool.{Bool, true, cond}
+use mathlib.Core.List.{List, []}
+use lib.Dec.{eqb}
 use lib.ListN.{length, getD, replicate}
-use Rattle.octets.specs.Part.{part, Apart}
+use Rattle.octets.specs.Part.{part}
 use Rattle.octets.specs.Xor.{_⊻_}
 use Rattle.octets.specs.Operands.{xorAll}
+use Rattle.geometry.specs.declared.Geometry.{Geometry}
+use Rattle.command.specs.Command.{sourceOf}
+use Rattle.meaning.specs.Acts.{startOf, sourcesFrom}
 use Rattle.gather.specs.declared.Job.{Job}
+use Rattle.gather.specs.Job.{size}
 
--- what the operands are XORed to, from index from on
+-- the entries left, from entry i on
+abbrev pub entriesFrom : List ℕ → Geometry → List ℕ → Job → ℕ → ℕ → List (List ℕ)
+entriesFrom s g sent j i left = sourcesFrom s g (j .sum .came) sent (j .count) i left
+
+-- the XOR of all operands that lie in the image
+unfoldable pub inImage : List ℕ → Geometry → List ℕ → Job → List ℕ
+inImage s g sent j = cond (j .own) (part s (j .from) (size g j)) [] ⊻ xorAll (entriesFrom s g sent j 0 (j .sources))
+
+-- what the plain path XORs the sources to, from index from on
 unfoldable pub seedPiece : List ℕ → Bool → ℕ → ℕ → List ℕ
 seedPiece s own from k = cond own (part s from k) (replicate k 0)
-
--- the sources left, from entry i on
-unfoldable pub piecesFrom : List ℕ → List ℕ → ℕ → ℕ → ℕ → ℕ → List (List ℕ)
-piecesFrom s places o k i zero = []
-piecesFrom s places o k i (suc left) = part s (getD places i 0 + o) k ∷ piecesFrom s places o k (i + 1) left
-
--- how many of the sources left the code takes at once
-abbrev pub atOnce : ℕ → ℕ
-atOnce left = cond (ltb left 4) 1 4
 
 -- the intermediate data, where there is any, from index at on
 unfoldable pub intPiece : ℕ → List ℕ → ℕ → ℕ → List ℕ
 intPiece int sent at k = cond (eqb int 0) [] (part sent at k)
 
--- all operands
-unfoldable pub sumPiece : List ℕ → List ℕ → List ℕ → Job → ℕ → ℕ → List ℕ
-sumPiece s places sent j o k =
-    seedPiece s (j .own) (j .from + o) k ⊻ xorAll (piecesFrom s places o k 0 (j .sources)) ⊻ intPiece (j .sum .int) sent (8 + 8 * j .sources + o) k
+-- ---- where the operands in the image start
 
--- ---- what the code needs
+-- the places of all: of the sources in their order and, behind them, with own that of the target's own blocks
+pub record Found (s : List ℕ) (g : Geometry) (sent : List ℕ) (j : Job) (places : List ℕ) : Type 0 where
+  pub all : length places ≡ j .sources + cond (j .own) 1 0
+  pub source : (i : ℕ) → i < j .sources → getD places i 0 ≡ startOf s g (j .sum .came) (sourceOf sent i)
+  pub own : j .own ≡ true → getD places (j .sources) 0 ≡ j .from
 
--- n bytes at each of the first places are the image's
-pub record Within (s places : List ℕ) (entries n : ℕ) : Type 0 where
-  pub entries-in : entries ≤ length places
-  pub inside : (i : ℕ) → i < entries → getD places i 0 + n ≤ length s
-
--- every operand has n bytes, and lies apart from where the XOR goes
-pub record Laid (s places sent : List ℕ) (j : Job) (n : ℕ) : Type 0 where
-  pub sources-in : Within s places (j .sources) n
-  pub long : 8 + 8 * j .sources ≤ length sent
-  pub exact : eqb (j .sum .int) 0 ≡ false → length sent ≡ 8 + 8 * j .sources + n
-  pub own-in : j .from + n ≤ length s
-  pub to-in : j .to + n ≤ length s
-  pub own-apart : j .own ≡ true → Apart (j .from) (j .to) n
-  pub apart : (i : ℕ) → i < j .sources → Apart (getD places i 0) (j .to) n
+-- none is known, or all are
+abbrev pub NoneOrAll : List ℕ → Geometry → List ℕ → Job → List ℕ → Type 0
+NoneOrAll s g sent j places = (length places ≡ 0 → ⊥) → Found s g sent j places

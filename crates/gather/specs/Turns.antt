@@ -1,113 +1,119 @@
--- How the code goes on from piece to piece.
-use Prim.Native.Nat.{ℕ, zero, suc, _+_, _*_, _≤_, _<_}
-use native.Mathlib.Nat.{zero-add, add-assoc}
+-- How the code goes on from piece to piece: what is written where the XOR goes leaves every operand, and what says where it lies.
+use Prim.Native.Nat.{ℕ, zero, suc, _+_, _≤_, _<_}
 use native.Mathlib.Omega.{arith}
 use mathlib.Core.Path.{_≡_, refl, sym, ap, ap₂, _∙_}
 use mathlib.Core.Bool.{Bool, true, false, cond}
-use mathlib.Core.List.{List, [], _∷_}
-use lib.Dec.{eqb}
+use mathlib.Core.Logic.{inl, inr, ⊎-elim}
+use mathlib.Core.List.{List, [], _∷_, _++_}
 use lib.ListN.{length, getD}
-use Rattle.octets.specs.Part.{part, Apart, length-part-le, part-part, part-nil, part-zeros}
+use Rattle.octets.specs.Part.{part, Apart, length-part-le, part-whole}
 use Rattle.octets.specs.Put.{put, put-nil, length-put}
-use Rattle.octets.specs.Pieces.{put-parts, part-ahead}
-use Rattle.octets.specs.Xor.{_⊻_, part-xor}
+use Rattle.octets.specs.PutPut.{part-put-apart}
+use Rattle.octets.specs.Pieces.{put-parts}
+use Rattle.octets.specs.Xor.{_⊻_}
 use Rattle.octets.specs.Operands.{xorAll}
+use Rattle.folds.specs.Least.{index}
+use Rattle.geometry.specs.declared.Geometry.{Geometry}
+use Rattle.geometry.specs.Header.{place}
+use Rattle.geometry.specs.Frame.{framed-same}
+use Rattle.drives.specs.Front.{front-put, drive-same}
+use Rattle.drives.specs.Table.{sourceDrive}
+use Rattle.command.specs.declared.Source.{Source}
+use Rattle.command.specs.Command.{sourceOf}
+use Rattle.meaning.specs.Acts.{homeOf, startOf, sourceBlocks, sourcesFrom, intData, gathered}
 use Rattle.gather.specs.declared.Job.{Job}
-use Rattle.gather.specs.Pieces.{seedPiece, piecesFrom, intPiece, sumPiece, Laid}
+use Rattle.gather.specs.Job.{size, summed, Named, Ready}
+use Rattle.gather.specs.Pieces.{entriesFrom, Found, NoneOrAll}
+use Rattle.gather.specs.Whole.{summed-short}
 
--- ---- a piece of the XOR is the XOR of the pieces
+module _ (s : List ℕ) (g : Geometry) (sent : List ℕ) (j : Job) (r : Ready s g sent j) (ys : List ℕ) (short : length ys ≤ size g j) where
+  abbrev after : List ℕ
+  after = put s (j .to) ys
 
-module _ (a n o k : ℕ) (h : o + k ≤ n) where
-  seed-part : (s : List ℕ) (own : Bool) (from : ℕ) → part (seedPiece s own (from + a) n) o k ≡ seedPiece s own (from + (a + o)) k
-  unfolding seedPiece
-  seed-part s true from = part-part s (from + a) n o k h ∙ ap (λ (p : ℕ). part s p k) (add-assoc from a o)
-  seed-part s false from = part-zeros n o k h
+  home-kept : (x : Source) → homeOf after g (j .sum .came) x ≡ homeOf s g (j .sum .came) x
+  home-kept x = ap index (drive-same after s g (r .listed .frame .placed) (front-put s g (j .to) ys (r .past-table)) (x .address .0))
 
-  pieces-part : (s places : List ℕ) (i left : ℕ) → part (xorAll (piecesFrom s places a n i left)) o k ≡ xorAll (piecesFrom s places (a + o) k i left)
-  unfolding xorAll piecesFrom
-  pieces-part s places i zero = part-nil o k
-  pieces-part s places i (suc left) =
-      part-xor (part s (getD places i 0 + a) n) (xorAll (piecesFrom s places a n (i + 1) left)) o k
-      ∙ ap₂ (λ (x y : List ℕ). x ⊻ y) (part-part s (getD places i 0 + a) n o k h ∙ ap (λ (p : ℕ). part s p k) (add-assoc (getD places i 0) a o))
-      (pieces-part s places (i + 1) left)
+  start-kept : (x : Source) → startOf after g (j .sum .came) x ≡ startOf s g (j .sum .came) x
+  start-kept x = ap (λ (d : ℕ). place g d (x .block .0)) (home-kept x)
 
-  int-part : (sent : List ℕ) (at : ℕ) (none : Bool) → part (cond none [] (part sent (at + a) n)) o k ≡ cond none [] (part sent (at + (a + o)) k)
-  int-part sent at true = part-nil o k
-  int-part sent at false = part-part sent (at + a) n o k h ∙ ap (λ (p : ℕ). part sent p k) (add-assoc at a o)
+  part-kept : (a : ℕ) → Apart a (j .to) (size g j) → part after a (size g j) ≡ part s a (size g j)
+  part-kept a w = part-put-apart s (j .to) ys a (size g j) (⊎-elim (λ l. inl l) (λ l. inr (omega arith)) w)
 
-  sum-part : (s places sent : List ℕ) (j : Job) → part (sumPiece s places sent j a n) o k ≡ sumPiece s places sent j (a + o) k
-  unfolding sumPiece intPiece
-  sum-part s places sent j =
-      let x = seedPiece s (j .own) (j .from + a) n in
-      let y = xorAll (piecesFrom s places a n 0 (j .sources)) in
-      let z = intPiece (j .sum .int) sent (8 + 8 * j .sources + a) n in
-      part-xor (x ⊻ y) z o k
-      ∙ ap₂ (λ (u v : List ℕ). u ⊻ v)
-      (part-xor x y o k ∙ ap₂ (λ (u v : List ℕ). u ⊻ v) (seed-part s (j .own) (j .from)) (pieces-part s places 0 (j .sources)))
-      (int-part sent (8 + 8 * j .sources) (eqb (j .sum .int) 0))
+  entries-kept : (i left : ℕ) → i + left ≤ j .sources → entriesFrom after g sent j i left ≡ entriesFrom s g sent j i left
+  unfolding sourcesFrom
+  entries-kept i zero m = refl
+  entries-kept i (suc left) m =
+      ap₂ (λ (x : List ℕ) (xs : List (List ℕ)). x ∷ xs)
+      (ap (λ (a : ℕ). part after a (size g j)) (start-kept (sourceOf sent i)) ∙ part-kept (startOf s g (j .sum .came) (sourceOf sent i)) (r .apart i (omega arith)))
+      (entries-kept (i + 1) left (omega arith))
 
--- ---- what is written where the XOR goes leaves what is yet to be read
+  own-kept : (own : Bool) → (own ≡ true → Apart (j .from) (j .to) (size g j)) → cond own (part after (j .from) (size g j)) [] ≡ cond own (part s (j .from) (size g j)) []
+  own-kept true w = part-kept (j .from) (w refl)
+  own-kept false w = refl
 
-module _ (s : List ℕ) (to n o k : ℕ) (ys : List ℕ) (h : o + k ≤ n) (short : length ys ≤ o) where
-  seed-kept : (own : Bool) (from : ℕ) → (own ≡ true → Apart from to n) → seedPiece (put s to ys) own (from + o) k ≡ seedPiece s own (from + o) k
-  unfolding seedPiece
-  seed-kept true from w = part-ahead s to n o k ys h short from (w refl)
-  seed-kept false from w = refl
+  pub summed-kept : summed after g sent j ≡ summed s g sent j
+  unfolding summed gathered
+  summed-kept =
+      ap₂ (λ (x : List ℕ) (xs : List (List ℕ)). x ⊻ xorAll (xs ++ intData g sent (j .count) (getD sent 0 0) (j .sum .int))) (own-kept (j .own) (r .own-apart))
+      (entries-kept 0 (getD sent 0 0) (omega (arith, r .counted)))
 
-  pieces-kept : (places : List ℕ) (i left : ℕ) → ((e : ℕ) → e < i + left → Apart (getD places e 0) to n)
-      → piecesFrom (put s to ys) places o k i left ≡ piecesFrom s places o k i left
-  unfolding piecesFrom
-  pieces-kept places i zero w = refl
-  pieces-kept places i (suc left) w =
-      ap₂ (λ (x : List ℕ) (xs : List (List ℕ)). x ∷ xs) (part-ahead s to n o k ys h short (getD places i 0) (w i (omega arith))) (pieces-kept places (i + 1) left (λ e l. w e (omega arith)))
+  pub ready-kept : Ready after g sent j
+  ready-kept =
+      let l : length after ≡ length s = length-put s (j .to) ys in
+      let start : (i : ℕ) → startOf after g (j .sum .came) (sourceOf sent i) ≡ startOf s g (j .sum .came) (sourceOf sent i) = (λ i. start-kept (sourceOf sent i)) in
+      record {
+        listed = record {
+          frame = framed-same s after g (r .listed .frame) l;
+          few = r .listed .few;
+          long = r .listed .long;
+          each = λ i k. record { drive-in = rw (home-kept (sourceOf sent i)) (r .listed .each i k .drive-in); block-in = r .listed .each i k .block-in };
+        };
+        counted = r .counted;
+        some-source = r .some-source;
+        exact = r .exact;
+        own-in = omega (arith, r .own-in);
+        past-table = r .past-table;
+        to-in = omega (arith, r .to-in);
+        own-apart = r .own-apart;
+        inside = λ i k. rw (start i) (omega (arith, r .inside i k));
+        apart = λ i k. rw (start i) (r .apart i k);
+      }
 
-  sum-kept : (places sent : List ℕ) (j : Job) → j .to ≡ to → Laid s places sent j n → sumPiece (put s to ys) places sent j o k ≡ sumPiece s places sent j o k
-  unfolding sumPiece
-  sum-kept places sent j e r =
-      ap₂ (λ (x : List ℕ) (xs : List (List ℕ)). x ⊻ xorAll xs ⊻ intPiece (j .sum .int) sent (8 + 8 * j .sources + o) k)
-      (seed-kept (j .own) (j .from) (λ t. rw (sym e) (r .own-apart t)))
-      (pieces-kept places 0 (j .sources) (λ i l. rw (sym e) (r .apart i (omega arith))))
+  pub known-kept : (places : List ℕ) → NoneOrAll s g sent j places → NoneOrAll after g sent j places
+  known-kept places f some =
+      let q = f some in record { all = q .all; source = λ i k. q .source i k ∙ sym (start-kept (sourceOf sent i)); own = q .own }
 
 -- ---- the first o bytes of the XOR are in their place
 
-module _ (s places sent : List ℕ) (j : Job) (n : ℕ) where
+module _ (s : List ℕ) (g : Geometry) (sent : List ℕ) (j : Job) where
   unfoldable pub reached : ℕ → List ℕ
-  reached o = put s (j .to) (part (sumPiece s places sent j 0 n) 0 o)
+  reached o = put s (j .to) (part (summed s g sent j) 0 o)
 
   pub reached-none : s ≡ reached 0
   unfolding reached part
   reached-none = sym (put-nil s (j .to))
 
-  module _ (r : Laid s places sent j n) (o : ℕ) (t : List ℕ) (e : t ≡ reached o) where
-    pub reached-laid : Laid t places sent j n
-    unfolding reached
-    reached-laid =
-        let l : length t ≡ length s = ap length e ∙ length-put s (j .to) (part (sumPiece s places sent j 0 n) 0 o) in
-        record {
-          sources-in = record { entries-in = r .sources-in .entries-in; inside = λ i k. (let x = r .sources-in .inside i k in omega arith) };
-          long = r .long;
-          exact = r .exact;
-          own-in = omega (arith, r .own-in);
-          to-in = omega (arith, r .to-in);
-          own-apart = r .own-apart;
-          apart = r .apart;
-        }
+  module _ (r : Ready s g sent j) (o : ℕ) (t : List ℕ) (e : t ≡ reached o) (h : o ≤ size g j) where
+    short : length (part (summed s g sent j) 0 o) ≤ size g j
+    short = omega (arith, length-part-le (summed s g sent j) 0 o)
 
-    pub reached-more : (k : ℕ) (u : List ℕ) → o + k ≤ n → u ≡ put t (j .to + o) (sumPiece t places sent j o k) → u ≡ reached (o + k)
+    pub reached-ready : Ready t g sent j
     unfolding reached
-    reached-more k u h ue =
-        let v = sumPiece s places sent j 0 n in
-        let q : sumPiece (put s (j .to) (part v 0 o)) places sent j o k ≡ part v o k =
-        sum-kept s (j .to) n o k (part v 0 o) h (length-part-le v 0 o) places sent j refl r
-        ∙ ap (λ (m : ℕ). sumPiece s places sent j m k) (sym (zero-add o))
-        ∙ sym (sum-part 0 n o k h s places sent j) in
+    reached-ready = rw e (ready-kept s g sent j r (part (summed s g sent j) 0 o) short)
+
+    pub reached-known : (places : List ℕ) → NoneOrAll s g sent j places → NoneOrAll t g sent j places
+    unfolding reached
+    reached-known places f = rw e (known-kept s g sent j r (part (summed s g sent j) 0 o) short places f)
+
+    pub reached-more : (k : ℕ) (u : List ℕ) → u ≡ put t (j .to + o) (part (summed t g sent j) o k) → u ≡ reached (o + k)
+    unfolding reached
+    reached-more k u ue =
+        let v = summed s g sent j in
         ue
-        ∙ ap (λ (x : List ℕ). put x (j .to + o) (sumPiece x places sent j o k)) e
-        ∙ ap (put (put s (j .to) (part v 0 o)) (j .to + o)) q
+        ∙ ap (λ (x : List ℕ). put x (j .to + o) (part (summed x g sent j) o k)) e
+        ∙ ap (λ (x : List ℕ). put (put s (j .to) (part v 0 o)) (j .to + o) (part x o k)) (summed-kept s g sent j r (part v 0 o) short)
         ∙ put-parts s (j .to) v o k
 
-    pub reached-all : o ≤ n → n ≤ o → t ≡ put s (j .to) (sumPiece s places sent j 0 n)
+    pub reached-all : size g j ≤ o → t ≡ put s (j .to) (summed s g sent j)
     unfolding reached
-    reached-all h k =
-        let q : o ≡ n = omega arith in
-        e ∙ ap (λ (m : ℕ). put s (j .to) (part (sumPiece s places sent j 0 n) 0 m)) q ∙ ap (put s (j .to)) (sum-part 0 n 0 n (omega arith) s places sent j)
+    reached-all k = e ∙ ap (put s (j .to)) (part-whole (summed s g sent j) o (omega (arith, summed-short s g sent j r)))

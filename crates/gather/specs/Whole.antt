@@ -1,84 +1,79 @@
--- The XOR at the places that were found is the XOR that the list means.
+-- The XOR of a job: how long it is, and its pieces.
 use Prim.Native.Nat.{ℕ, zero, suc, _+_, _*_, _≤_, _<_}
-use native.Mathlib.Nat.{add-zero}
+use native.Mathlib.Nat.{not-suc-le-zero}
 use native.Mathlib.Omega.{arith}
 use mathlib.Core.Path.{_≡_, refl, sym, ap, ap₂, _∙_}
 use mathlib.Core.Bool.{Bool, true, false, cond}
 use mathlib.Core.List.{List, [], _∷_, _++_}
 use lib.Dec.{eqb}
-use lib.ListN.{length, getD}
-use Rattle.octets.specs.Part.{part, length-part}
+use lib.ListN.{length}
+use Rattle.octets.specs.Part.{part, length-part, length-part-le, part-part, part-nil}
 use Rattle.octets.specs.Put.{put}
-use Rattle.octets.specs.Xor.{_⊻_, xor-regroups, nil-xor, zeros-xor}
+use Rattle.octets.specs.Xor.{_⊻_, length-xor, xor-regroups, part-xor}
 use Rattle.octets.specs.Operands.{xorAll, xorAll-one, xorAll-append}
 use Rattle.geometry.specs.declared.Geometry.{Geometry}
-use Rattle.drives.specs.declared.Came.{Came}
 use Rattle.command.specs.Command.{sourceOf}
-use Rattle.meaning.specs.Acts.{startOf, sourcesFrom, intData, gathered}
+use Rattle.meaning.specs.Acts.{startOf, sourceBlocks, sourcesFrom, intData, gathered}
 use Rattle.meaning.specs.Lengths.{gathered-long}
 use Rattle.gather.specs.declared.Job.{Job}
 use Rattle.gather.specs.Job.{size, summed, Ready}
-use Rattle.gather.specs.Starts.{startsOver, length-starts, start-is}
-use Rattle.gather.specs.Pieces.{seedPiece, piecesFrom, intPiece, sumPiece, Laid}
+use Rattle.gather.specs.Pieces.{entriesFrom, inImage, intPiece}
 
--- zeros are no operand
-seed-whole : (s v : List ℕ) (own : Bool) (from n : ℕ) → n ≤ length v → seedPiece s own (from + 0) n ⊻ v ≡ cond own (part s from n) [] ⊻ v
-unfolding seedPiece
-seed-whole s v true from n h = ap (λ (a : ℕ). part s a n ⊻ v) (add-zero from)
-seed-whole s v false from n h = zeros-xor v n h ∙ sym (nil-xor v)
+module _ (s : List ℕ) (g : Geometry) (sent : List ℕ) (j : Job) (r : Ready s g sent j) where
+  -- ---- lengths
 
-int-whole : (sent : List ℕ) (at n : ℕ) (none : Bool) → cond none [] (part sent (at + 0) n) ≡ xorAll (cond none [] (part sent at n ∷ []))
-unfolding xorAll
-int-whole sent at n true = refl
-int-whole sent at n false = ap (λ (a : ℕ). part sent a n) (add-zero at) ∙ sym (xorAll-one (part sent at n))
+  pub length-entry : (i : ℕ) → i < j .sources → length (sourceBlocks s g (j .sum .came) sent (j .count) i) ≡ size g j
+  length-entry i l = length-part s (startOf s g (j .sum .came) (sourceOf sent i)) (size g j) (r .inside i l)
 
-sources-whole : (s : List ℕ) (g : Geometry) (a : Came) (sent places : List ℕ) (count i left : ℕ) → ((e : ℕ) → e < i + left → getD places e 0 ≡ startOf s g a (sourceOf sent e))
-    → piecesFrom s places 0 (count * g .l) i left ≡ sourcesFrom s g a sent count i left
-unfolding piecesFrom sourcesFrom
-sources-whole s g a sent places count i zero h = refl
-sources-whole s g a sent places count i (suc left) h =
-    ap₂ (λ (x : List ℕ) (xs : List (List ℕ)). x ∷ xs) (ap (λ (p : ℕ). part s p (count * g .l)) (add-zero (getD places i 0) ∙ h i (omega arith)))
-    (sources-whole s g a sent places count (i + 1) left (λ e l. h e (omega arith)))
+  -- the XOR of the sources left is no shorter than one of them
+  pub entries-long : (i left : ℕ) → 1 ≤ left → i + left ≤ j .sources → size g j ≤ length (xorAll (entriesFrom s g sent j i left))
+  unfolding xorAll sourcesFrom
+  entries-long i zero some h = absurd (not-suc-le-zero some)
+  entries-long i (suc left) some h =
+      omega (arith, length-xor (sourceBlocks s g (j .sum .came) sent (j .count) i) (xorAll (entriesFrom s g sent j (i + 1) left)), length-entry i (omega arith))
 
-module _ (s : List ℕ) (g : Geometry) (sent : List ℕ) (j : Job) (r : Ready s g sent j) (xs places : List ℕ) (room : j .sources ≤ length xs)
-    (found : places ≡ startsOver s g (j .sum .came) sent xs (j .sources)) where
-  place-is : (i : ℕ) → i < j .sources → getD places i 0 ≡ startOf s g (j .sum .came) (sourceOf sent i)
-  place-is i l = ap (λ (ys : List ℕ). getD ys i 0) found ∙ start-is s g (j .sum .came) sent xs (j .sources) i room l
-
-  pub found-laid : Laid s places sent j (size g j)
-  found-laid =
-      let l : length places ≡ length xs = ap length found ∙ length-starts s g (j .sum .came) sent xs (j .sources) in
-      record {
-        sources-in = record { entries-in = omega arith; inside = λ i k. (let e = place-is i k in let x = r .inside i k in omega arith) };
-        long = r .listed .long;
-        exact = r .exact;
-        own-in = r .own-in;
-        to-in = r .to-in;
-        own-apart = r .own-apart;
-        apart = λ i k. rw (place-is i k) (r .apart i k);
-      }
-
-  long : length (gathered s g sent (j .count) (j .sum)) ≡ size g j
-  long =
+  length-gathered : length (gathered s g sent (j .count) (j .sum)) ≡ size g j
+  length-gathered =
       let same = r .counted in
-      gathered-long s g sent (j .count) (j .sum) (omega (arith, r .some-source))
-      (λ e l. length-part s (startOf s g (j .sum .came) (sourceOf sent e)) (size g j) (r .inside e (omega arith))) (λ q. omega (arith, r .exact q))
+      gathered-long s g sent (j .count) (j .sum) (omega (arith, r .some-source)) (λ e l. length-entry e (omega arith)) (λ q. omega (arith, r .exact q))
 
-  sum-is : sumPiece s places sent j 0 (size g j) ≡ summed s g sent j
-  unfolding sumPiece summed intPiece gathered
-  sum-is =
-      let n = size g j in
-      let ys = sourcesFrom s g (j .sum .came) sent (j .count) 0 in
-      let zs : ℕ → List (List ℕ) = λ m. intData g sent (j .count) m (j .sum .int) in
-      let v = gathered s g sent (j .count) (j .sum) in
-      let q : xorAll (piecesFrom s places 0 n 0 (j .sources)) ⊻ intPiece (j .sum .int) sent (8 + 8 * j .sources + 0) n ≡ v =
-      ap₂ (λ (u : List (List ℕ)) (v : List ℕ). xorAll u ⊻ v) (sources-whole s g (j .sum .came) sent places (j .count) 0 (j .sources) (λ e l. place-is e (omega arith)))
-      (int-whole sent (8 + 8 * j .sources) n (eqb (j .sum .int) 0))
-      ∙ sym (xorAll-append (ys (j .sources)) (zs (j .sources)))
-      ∙ ap (λ (m : ℕ). xorAll (ys m ++ zs m)) (r .counted) in
-      xor-regroups (seedPiece s (j .own) (j .from + 0) n) (xorAll (piecesFrom s places 0 n 0 (j .sources))) (intPiece (j .sum .int) sent (8 + 8 * j .sources + 0) n)
-      ∙ ap (_⊻_ (seedPiece s (j .own) (j .from + 0) n)) q
-      ∙ seed-whole s v (j .own) (j .from) n (omega (arith, long))
+  own-short : (own : Bool) → length (cond own (part s (j .from) (size g j)) []) ≤ size g j
+  own-short true = length-part-le s (j .from) (size g j)
+  own-short false = omega arith
 
-  pub gathered-by : (t : List ℕ) → t ≡ put s (j .to) (sumPiece s places sent j 0 (size g j)) → t ≡ put s (j .to) (summed s g sent j)
-  gathered-by t e = e ∙ ap (put s (j .to)) sum-is
+  pub summed-short : length (summed s g sent j) ≤ size g j
+  unfolding summed
+  summed-short =
+      omega (arith, length-xor (cond (j .own) (part s (j .from) (size g j)) []) (gathered s g sent (j .count) (j .sum)), own-short (j .own), length-gathered)
+
+  -- ---- what lies in the image, and the intermediate data
+
+  summed-is : summed s g sent j ≡ inImage s g sent j ⊻ xorAll (intData g sent (j .count) (j .sources) (j .sum .int))
+  unfolding summed inImage gathered
+  summed-is =
+      let own = cond (j .own) (part s (j .from) (size g j)) [] in
+      let xs = entriesFrom s g sent j 0 (j .sources) in
+      let ys = intData g sent (j .count) (j .sources) (j .sum .int) in
+      ap (λ (n : ℕ). own ⊻ xorAll (entriesFrom s g sent j 0 n ++ intData g sent (j .count) n (j .sum .int))) (sym (r .counted))
+      ∙ ap (_⊻_ own) (xorAll-append xs ys)
+      ∙ sym (xor-regroups own (xorAll xs) (xorAll ys))
+
+  module _ (o k : ℕ) (h : o + k ≤ size g j) where
+    int-part : (at : ℕ) (none : Bool) → part (xorAll (cond none [] (part sent at (size g j) ∷ []))) o k ≡ cond none [] (part sent (at + o) k)
+    unfolding xorAll
+    int-part at true = part-nil o k
+    int-part at false = ap (λ (x : List ℕ). part x o k) (xorAll-one (part sent at (size g j))) ∙ part-part sent at (size g j) o k h
+
+    -- a piece of the XOR is the XOR of the pieces
+    pub piece-is : part (summed s g sent j) o k ≡ part (inImage s g sent j) o k ⊻ intPiece (j .sum .int) sent (8 + 8 * j .sources + o) k
+    unfolding intPiece
+    piece-is =
+        ap (λ (x : List ℕ). part x o k) summed-is
+        ∙ part-xor (inImage s g sent j) (xorAll (intData g sent (j .count) (j .sources) (j .sum .int))) o k
+        ∙ ap (_⊻_ (part (inImage s g sent j) o k)) (int-part (8 + 8 * j .sources) (eqb (j .sum .int) 0))
+
+    -- what lies in the image, then the intermediate data, then to its place
+    pub piece-done : (a b t : List ℕ) → a ≡ part (inImage s g sent j) o k → b ≡ a ⊻ intPiece (j .sum .int) sent (8 + 8 * j .sources + o) k
+        → t ≡ put s (j .to + o) b → t ≡ put s (j .to + o) (part (summed s g sent j) o k)
+    piece-done a b t ae be te =
+        te ∙ ap (put s (j .to + o)) (be ∙ ap (λ (x : List ℕ). x ⊻ intPiece (j .sum .int) sent (8 + 8 * j .sources + o) k) ae ∙ sym piece-is)

@@ -1,16 +1,16 @@
-// The XOR of the sources of REBUILD and REGENERATE. Each address is looked up once, and then the XOR
-// is done piece by piece: in short pieces the machine fetches all operands side by side.
+// The XOR of the sources of REBUILD and REGENERATE, by a plain path and by a faster one that leaves the
+// same.
 mod operands;
+mod pieces;
 mod sources;
 
 use geometry::Geometry;
 use meaning::Summing;
 ghost use mathlib.Core.Path.{_≡_};
-ghost use Prim.Native.Nat.{_+_, _<_, _≤_};
-ghost use lib.ListN.{length};
+ghost use mathlib.Core.Bool.{cond};
+ghost use Prim.Native.Nat.{_+_, _<_};
 ghost use Rattle.octets.specs.Put.{put};
 ghost use Rattle.gather.specs.Job.{summed, Ready};
-ghost use Rattle.gather.specs.Pieces.{sumPiece, Laid};
 
 // What is gathered: the sources of a list and, with Int Data, the bytes after the list, `count` blocks of
 // each; with own the blocks at index from besides. The XOR goes to index to.
@@ -23,64 +23,49 @@ pub struct Job {
     pub sum: Summing,
 }
 
-// The XOR goes to its place. A list has at most 255 entries. The two arrays live here.
+// The XOR goes to its place. Here it is said which path the step takes: the plain one where one piece
+// holds the range and at most eight sources keep its recursion flat, and else the faster one.
 pub fn gather(image: &mut [u8], g: Geometry, sent: &[u8], j: Job)
     requires { ⌜ Ready (now image) g (now sent) j ⌝ }
     ensures { λ _. ⌜ now (image .exit) ≡ put (now (image .entry)) (j .to) (summed (now (image .entry)) g (now (sent .entry)) j) ⌝ }
 {
-    let mut places = [0usize; 255];
-    let mut piece = [0u8; 512];
-    sources::find_all(image, g, j.sum.came, sent, j.sources, &mut places);
-    gather_by(image, &places, sent, j, j.count * g.l, &mut piece);
-}
-
-// All n bytes, in pieces of at most as many as buf has; source i starts at index places[i].
-fn gather_by(image: &mut [u8], places: &[usize], sent: &[u8], j: Job, n: usize, buf: &mut [u8])
-    requires { ⌜ Laid (now image) (now places) (now sent) j n × (0 < length (now buf)) ⌝ }
-    ensures { λ _. ⌜ now (image .exit) ≡ put (now (image .entry)) (j .to) (sumPiece (now (image .entry)) (now (places .entry)) (now (sent .entry)) j 0 n) ⌝ }
-{
-    let mut o = 0;
-    while o < n {
-        let k = octets::least(n - o, buf.len());
-        gather_front(image, places, sent, j, n, o, k, buf);
-        o += k;
+    if (j.count * g.l <= 512) & (j.sources <= 8) {
+        in_turn(image, g, sent, j);
+        return;
     }
+    at_once(image, g, sent, j);
 }
 
-// A piece of k bytes, through the front of buf.
-fn gather_front(
-    image: &mut [u8],
-    places: &[usize],
-    sent: &[u8],
-    j: Job,
-    n: usize,
-    o: usize,
-    k: usize,
-    buf: &mut [u8],
-)
-    requires { ⌜ Laid (now image) (now places) (now sent) j n × (o + k ≤ n) × (k ≤ length (now buf)) ⌝ }
-    ensures { λ _. ⌜ now (image .exit) ≡ put (now (image .entry)) (j .to + o) (sumPiece (now (image .entry)) (now (places .entry)) (now (sent .entry)) j o k) ⌝ }
+// The plain path: source entry by source entry, each looked up when its turn comes.
+pub fn in_turn(image: &mut [u8], g: Geometry, sent: &[u8], j: Job)
+    requires { ⌜ Ready (now image) g (now sent) j ⌝ }
+    ensures { λ _. ⌜ now (image .exit) ≡ put (now (image .entry)) (j .to) (summed (now (image .entry)) g (now (sent .entry)) j) ⌝ }
 {
-    gather_piece(image, places, sent, j, n, o, &mut buf[..k]);
+    let none = [0usize; 1];
+    pieces::all(image, g, sent, j, &none[..0]);
 }
 
-// The bytes from o on of the XOR, as many as acc has.
-fn gather_piece(
-    image: &mut [u8],
-    places: &[usize],
-    sent: &[u8],
-    j: Job,
-    n: usize,
-    o: usize,
-    acc: &mut [u8],
-)
-    requires { ⌜ Laid (now image) (now places) (now sent) j n × (o + length (now acc) ≤ n) ⌝ }
-    ensures { λ _. ⌜ now (image .exit) ≡ put (now (image .entry)) (j .to + o) (sumPiece (now (image .entry)) (now (places .entry)) (now (sent .entry)) j o (length (now (acc .entry)))) ⌝ }
+// The faster path: each address is looked up once, and then up to eight operands are XORed in one pass.
+// A list has at most 255 entries, and the target's own blocks are one operand more.
+pub fn at_once(image: &mut [u8], g: Geometry, sent: &[u8], j: Job)
+    requires { ⌜ Ready (now image) g (now sent) j ⌝ }
+    ensures { λ _. ⌜ now (image .exit) ≡ put (now (image .entry)) (j .to) (summed (now (image .entry)) g (now (sent .entry)) j) ⌝ }
 {
-    let from = j.from + o;
-    let to = j.to + o;
-    operands::seed(acc, image, j.own, from);
-    operands::xor_sources(acc, image, places, 0, j.sources, o);
-    operands::xor_int(acc, j.sum.int, sent, 8 + 8 * j.sources, o);
-    octets::put_at(image, to, acc);
+    let mut places = [0usize; 256];
+    sources::find_all(image, g, j.sum.came, sent, j.sources, &mut places);
+    let last = j.sources;
+    places[last] = j.from;
+    let n = in_image(j);
+    pieces::all(image, g, sent, j, &places[..n]);
+}
+
+// How many operands lie in the image.
+fn in_image(j: Job) -> usize
+    requires { ⌜ j .sources < 256 ⌝ }
+    ensures { λ r. ⌜ r ≡ j .sources + cond (j .own) 1 0 ⌝ }
+{
+    if j.own {
+        return j.sources + 1;
+    }
+    j.sources
 }

@@ -26,7 +26,7 @@ pub fn find_all(image: &[u8], g: Geometry, came: Came, sent: &[u8], n: usize, pl
 }
 
 // Where the source's blocks start.
-fn start(image: &[u8], g: Geometry, came: Came, x: Source) -> usize
+pub fn start(image: &[u8], g: Geometry, came: Came, x: Source) -> usize
     requires { ⌜ Framed (now image) g × Named (now image) g came x ⌝ }
     ensures { λ r. ⌜ r ≡ startOf (now (image .entry)) g came x ⌝ }
 {

@@ -8,4 +8,5 @@ pub mod Operands
 pub mod Octets
 pub mod Number
 pub mod Four
+pub mod Eight
 pub mod New

@@ -24,14 +24,15 @@ unfolding xorAll
 xorAll-append [] ys = sym (nil-xor (xorAll ys))
 xorAll-append (x ∷ xs) ys = ap (_⊻_ x) (xorAll-append xs ys) ∙ sym (xor-regroups x (xorAll xs) (xorAll ys))
 
--- byte i of the XOR of four
-getD-four : (a b c d : List ℕ) (i : ℕ)
-    → getD (xorAll (a ∷ b ∷ c ∷ d ∷ [])) i 0 ≡ bitXor (getD a i 0) (bitXor (getD b i 0) (bitXor (getD c i 0) (getD d i 0)))
+-- byte i of the XOR of x and xs
+abbrev pub byteOf : ℕ → List ℕ → List (List ℕ) → ℕ
+byteOf i x [] = getD x i 0
+byteOf i x (y ∷ ys) = bitXor (getD x i 0) (byteOf i y ys)
+
+pub getD-xorAll : (x : List ℕ) (xs : List (List ℕ)) (i : ℕ) → getD (xorAll (x ∷ xs)) i 0 ≡ byteOf i x xs
 unfolding xorAll
-getD-four a b c d i =
-    getD-xor a (b ⊻ (c ⊻ (d ⊻ []))) i
-    ∙ ap (bitXor (getD a i 0))
-    (getD-xor b (c ⊻ (d ⊻ [])) i ∙ ap (bitXor (getD b i 0)) (getD-xor c (d ⊻ []) i ∙ ap (λ (r : List ℕ). bitXor (getD c i 0) (getD r i 0)) (xor-nil d)))
+getD-xorAll x [] i = ap (λ (r : List ℕ). getD r i 0) (xor-nil x)
+getD-xorAll x (y ∷ ys) i = getD-xor x (xorAll (y ∷ ys)) i ∙ ap (bitXor (getD x i 0)) (getD-xorAll y ys i)
 
 -- a turn of the loop that XORs four at once
 pub xor-four-more : (x a b c d : List ℕ) (j : ℕ) → j < length x → j < length (xorAll (a ∷ b ∷ c ∷ d ∷ []))
@@ -39,7 +40,7 @@ pub xor-four-more : (x a b c d : List ℕ) (j : ℕ) → j < length x → j < le
     ≡ x ⊻ take (suc j) (xorAll (a ∷ b ∷ c ∷ d ∷ []))
 xor-four-more x a b c d j hx hs =
     let s = xorAll (a ∷ b ∷ c ∷ d ∷ []) in
-    ap (λ (v : ℕ). set (x ⊻ take j s) j (bitXor (getD (x ⊻ take j s) j 0) v)) (sym (getD-four a b c d j)) ∙ xor-more x s j hx hs
+    ap (λ (v : ℕ). set (x ⊻ take j s) j (bitXor (getD (x ⊻ take j s) j 0) v)) (sym (getD-xorAll a (b ∷ c ∷ d ∷ []) j)) ∙ xor-more x s j hx hs
 
 -- the order of the operands does not matter
 pub xorAll-perm : {xs ys : List (List ℕ)} → List·Permᴰ xs ys → xorAll xs ≡ xorAll ys

@@ -21,6 +21,7 @@ ghost use Rattle.octets.specs.Part.{part};
 ghost use Rattle.octets.specs.Put.{put};
 ghost use Rattle.octets.specs.Xor.{_⊻_};
 ghost use Rattle.octets.specs.Operands.{xorAll};
+ghost use Rattle.octets.specs.Eight.{eightParts, EightIn};
 
 // The last four bytes of a number, the highest first.
 pub struct Four(pub u8, pub u8, pub u8, pub u8);
@@ -60,6 +61,31 @@ pub fn xor_over(dst: &mut [u8], a: &[u8], b: &[u8])
     let mut i = 0;
     while i < n {
         dst[i] = a[i] ^ b[i];
+        i += 1;
+    }
+}
+
+// Writes over dst the XOR of the bytes of xs from eight indices on, in one pass: dst is stored once, and not loaded.
+pub fn xor_eight_over(
+    dst: &mut [u8],
+    xs: &[u8],
+    a: usize,
+    b: usize,
+    c: usize,
+    d: usize,
+    e: usize,
+    f: usize,
+    g: usize,
+    h: usize,
+)
+    requires { ⌜ EightIn (now xs) a b c d e f g h (length (now dst)) ⌝ }
+    ensures { λ _. ⌜ now (dst .exit) ≡ xorAll (eightParts (now (xs .entry)) a b c d e f g h (length (now (dst .entry)))) ⌝ }
+{
+    let n = dst.len();
+    let mut i = 0;
+    while i < n {
+        let last = xs[e + i] ^ (xs[f + i] ^ (xs[g + i] ^ xs[h + i]));
+        dst[i] = xs[a + i] ^ (xs[b + i] ^ (xs[c + i] ^ (xs[d + i] ^ last)));
         i += 1;
     }
 }

@@ -1,5 +1,6 @@
 pub mod Only
 pub mod Octets
+pub mod Passes
 pub mod Geometry
 pub mod Drives
 pub mod Slots
@@ -12,6 +13,7 @@ pub mod Decide_two
 pub mod Decide_list
 pub mod Decide
 pub mod Gather
+pub mod Paths
 pub mod Act
 pub mod Shelf
 pub mod Shelf_c

@@ -12,6 +12,9 @@ xor-four-into-once = equation
 pub xor-over-once : Only octets.xor_over.Reads.Post (λ _ _ s. now (s .0))
 xor-over-once = equation
 
+pub xor-eight-over-once : Only octets.xor_eight_over.Reads.Post (λ _ _ s. now (s .0))
+xor-eight-over-once = equation
+
 pub copy-into-once : Only octets.copy_into.Reads.Post (λ _ _ s. now (s .0))
 copy-into-once = equation
 

@@ -26,6 +26,10 @@ module _ {L : Type 0} {A R S T : L → Type 0} where
   pub record Only (Post : Contract A R S) (v : View R S T) : Type 0 where
     pub same : (κs : L) (a : A κs) (r r′ : R κs) (s s′ : S κs) → Post κs a r s → Post κs a r′ s′ → v κs r s ≡ v κs r′ s′
 
+  -- and any two that two contracts allow
+  pub record Alike (Post Post′ : Contract A R S) (v : View R S T) : Type 0 where
+    pub same : (κs : L) (a : A κs) (r r′ : R κs) (s s′ : S κs) → Post κs a r s → Post′ κs a r′ s′ → v κs r s ≡ v κs r′ s′
+
   module _ {v : View R S T} {f : Term A T} where
     -- for a contract that gives an equation to a term of the arguments alone
     pub from : {Post : Contract A R S} → ((κs : L) (a : A κs) (r : R κs) (s : S κs) → Post κs a r s → v κs r s ≡ f κs a) → Only Post v
@@ -34,6 +38,10 @@ module _ {L : Type 0} {A R S T : L → Type 0} where
     -- for one that is an equation
     pub equation : Only (λ κs a r s. v κs r s ≡ f κs a) v
     equation = from (λ κs a r s p. p)
+
+    -- for two that are the same equation
+    pub one-equation : Alike (λ κs a r s. v κs r s ≡ f κs a) (λ κs a r s. v κs r s ≡ f κs a) v
+    one-equation = record { same = λ κs a r r′ s s′ p q. p ∙ sym q }
 
     -- for one that is an equation with a bound beside it
     pub bounded : {B : Contract A R S} → Only (λ κs a r s. (v κs r s ≡ f κs a) × B κs a r s) v

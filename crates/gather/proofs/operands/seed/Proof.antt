@@ -1,7 +1,7 @@
 -- `gather::operands::seed` meets its contract.
 use mathlib.Core.Path.{_∙_}
 use borrow.Author.Needs.{needs}
-use Rattle.gather.specs.Steps.{seed-own, seed-zeros}
+use Rattle.gather.specs.InTurn.{seed-own, seed-zeros}
 use Rattle.gather.proofs.operands.seed.Statement.{statement}
 use Rattle.gather.proofs.operands.seed.Tie as tie
 

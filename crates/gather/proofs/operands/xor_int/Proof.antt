@@ -3,7 +3,7 @@ use native.Mathlib.Omega.{arith}
 use lib.ListN.{length-take, length-drop}
 use borrow.Author.Tests.{ne-eqb}
 use borrow.Author.Needs.{needs}
-use Rattle.gather.specs.Steps.{int-add, int-none}
+use Rattle.gather.specs.InTurn.{int-add, int-none}
 use Rattle.gather.proofs.operands.xor_int.Statement.{statement}
 use Rattle.gather.proofs.operands.xor_int.Tie as tie
 
