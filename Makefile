@@ -13,11 +13,17 @@ all:
 test:
 	.ci/run
 
-bench:
+bench: target/plain-rebuild
 	tools/native-lib
-	cargo run --quiet --offline --locked --release --manifest-path bench/Cargo.toml --target-dir target/cargo --bin rebuild -- 1.15
+	cargo run --quiet --offline --locked --release --manifest-path bench/Cargo.toml --target-dir target/cargo --bin rebuild -- target/plain-rebuild 1.15
 	cargo run --quiet --offline --locked --release --manifest-path bench/Cargo.toml --target-dir target/cargo --bin small
 	cargo run --quiet --offline --locked --release --manifest-path bench/Cargo.toml --target-dir target/cargo --bin xdwrite
+
+# The plain program that REBUILD is held to, at the optimisation level of the library and of the loops beside it, and as these for
+# every processor of the machine's kind.
+target/plain-rebuild: docs/src/rebuild.rs
+	mkdir -p target
+	rustc --edition 2021 -C opt-level=3 -o $@ $<
 
 # Only what is older than a source is made again, so that whoever installs needs no kit.
 target/native/libshelf_c.a: $(sources)

@@ -1,5 +1,7 @@
 //! A shelf to measure on, and commands to it.
 
+pub mod isal;
+
 use shelf_tests::c::shelf_step;
 
 /// The offset of the media on a shelf of so many drives and slots.

@@ -76,16 +76,16 @@ fn command(image: &mut [u8], name: &str, cdb: &[u8], data: &[u8]) -> usize {
     report(name, stack_of(&mut || send(image, 1, cdb, data, &mut room)))
 }
 
-/// REBUILD and REGENERATE, the second with Int Data.
-fn with_list(image: &mut [u8], sources: usize) -> usize {
+/// REBUILD and REGENERATE of so many blocks, the second with Int Data.
+fn with_list(image: &mut [u8], blocks: usize, sources: usize) -> usize {
     let mut data = list(vec![32; sources].into_iter());
-    let rebuild = listed(0xC3, 4, &data);
-    let name = format!("REBUILD, sources: {sources}");
+    let rebuild = listed(0xC3, blocks, &data);
+    let name = format!("REBUILD, blocks: {blocks}, sources: {sources}");
     let most = command(image, &name, &rebuild, &data);
-    let mut regenerate = listed(0xC4, 4, &data);
+    let mut regenerate = listed(0xC4, blocks, &data);
     regenerate[1] = 0x04;
-    data.extend([0xA5; 2048]);
-    let name = format!("REGENERATE with Int Data, sources: {sources}");
+    data.extend(vec![0xA5; 512 * blocks]);
+    let name = format!("REGENERATE with Int Data, blocks: {blocks}, sources: {sources}");
     most.max(command(image, &name, &regenerate, &data))
 }
 
@@ -114,8 +114,9 @@ fn every_call(image: &mut [u8]) -> usize {
     for (name, cdb, sent) in calls {
         most = most.max(command(image, name, cdb, sent));
     }
-    for sources in [1, 255] {
-        most = most.max(with_list(image, sources));
+    // One block from at most eight sources takes the plain path, anything more the faster one.
+    for (blocks, sources) in [(1, 1), (1, 8), (1, 9), (4, 1), (4, 255)] {
+        most = most.max(with_list(image, blocks, sources));
     }
     most
 }
