@@ -178,8 +178,8 @@ extern "C" {
  *                     block. With a length of 0, but in an XDREAD of either set, and with a list length of 0 nothing is moved; the
  *                     latter sends nothing either.
  *
- * Stack, as measured on x86-64: REBUILD and REGENERATE 4,100 bytes with one source and 16,600 with 255, the most; every other call
- * less than 1,700.
+ * Stack, as measured on x86-64: REBUILD and REGENERATE at most 6,700 bytes, at any number of sources; every other call less than
+ * 1,700.
  *
  * READ of block 7 of the drive with address 1, on a shelf whose blocks have 512 bytes:
  *
