@@ -5,7 +5,7 @@ use native.Mathlib.Omega.{arith}
 use mathlib.Core.Path.{_≡_, refl, sym, ap, ap₂, _∙_}
 use mathlib.Core.Bool.{Bool, true, false, cond}
 use mathlib.Core.Logic.{⊎-elim}
-use mathlib.Core.List.{List, [], _∷_, _++_}
+use mathlib.Core.List.{List, []}
 use lib.ListN.{length, getD, set, take, length-set}
 use lib.Seq.{getD-set-same, getD-set-other, getD-take, length-take-le}
 use Rattle.folds.specs.Cases.{order}
@@ -19,7 +19,7 @@ use Rattle.passes.specs.Parts.{partsFrom, partsAt, Within}
 use Rattle.passes.specs.Steps.{parts-add}
 use Rattle.gather.specs.declared.Job.{Job}
 use Rattle.gather.specs.Job.{size, Ready}
-use Rattle.gather.specs.Pieces.{entriesFrom, inImage, Found}
+use Rattle.gather.specs.Pieces.{entriesFrom, inImage, AllKnown}
 use Rattle.gather.specs.Starts.{startsOver, length-starts, start-is}
 
 -- ---- what the code finds
@@ -40,8 +40,8 @@ module _ (s : List ℕ) (g : Geometry) (sent : List ℕ) (j : Job) (xs ys : List
   pub counted-in : n ≤ length written
   counted-in = omega (arith, long, few (j .own))
 
-  pub found-by : Found s g sent j (take n written)
-  found-by =
+  pub known-by : AllKnown s g sent j (take n written)
+  known-by =
       record {
         all = length-take-le n written counted-in ∙ count;
         source = λ i l.
@@ -57,9 +57,9 @@ module _ (s : List ℕ) (g : Geometry) (sent : List ℕ) (j : Job) (xs ys : List
 
 -- ---- what they come to
 
-module _ (s : List ℕ) (g : Geometry) (sent : List ℕ) (j : Job) (r : Ready s g sent j) (places : List ℕ) (f : Found s g sent j places) (o k : ℕ) (h : o + k ≤ size g j) where
-  pub found-within : Within s places (o + k)
-  found-within i l = by (j .own) refl
+module _ (s : List ℕ) (g : Geometry) (sent : List ℕ) (j : Job) (r : Ready s g sent j) (places : List ℕ) (f : AllKnown s g sent j places) (o k : ℕ) (h : o + k ≤ size g j) where
+  pub known-within : Within s places (o + k)
+  known-within i l = by (j .own) refl
     where
       by : (own : Bool) → j .own ≡ own → getD places i 0 + (o + k) ≤ length s
       by true e =

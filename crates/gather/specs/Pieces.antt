@@ -33,11 +33,11 @@ intPiece int sent at k = cond (eqb int 0) [] (part sent at k)
 -- ---- where the operands in the image start
 
 -- the places of all: of the sources in their order and, behind them, with own that of the target's own blocks
-pub record Found (s : List ℕ) (g : Geometry) (sent : List ℕ) (j : Job) (places : List ℕ) : Type 0 where
+pub record AllKnown (s : List ℕ) (g : Geometry) (sent : List ℕ) (j : Job) (places : List ℕ) : Type 0 where
   pub all : length places ≡ j .sources + cond (j .own) 1 0
   pub source : (i : ℕ) → i < j .sources → getD places i 0 ≡ startOf s g (j .sum .came) (sourceOf sent i)
   pub own : j .own ≡ true → getD places (j .sources) 0 ≡ j .from
 
 -- none is known, or all are
 abbrev pub NoneOrAll : List ℕ → Geometry → List ℕ → Job → List ℕ → Type 0
-NoneOrAll s g sent j places = (length places ≡ 0 → ⊥) → Found s g sent j places
+NoneOrAll s g sent j places = (length places ≡ 0 → ⊥) → AllKnown s g sent j places

@@ -1,5 +1,5 @@
 -- How the code goes on from piece to piece: what is written where the XOR goes leaves every operand, and what says where it lies.
-use Prim.Native.Nat.{ℕ, zero, suc, _+_, _≤_, _<_}
+use Prim.Native.Nat.{ℕ, zero, suc, _+_, _≤_}
 use native.Mathlib.Omega.{arith}
 use mathlib.Core.Path.{_≡_, refl, sym, ap, ap₂, _∙_}
 use mathlib.Core.Bool.{Bool, true, false, cond}
@@ -17,13 +17,12 @@ use Rattle.geometry.specs.declared.Geometry.{Geometry}
 use Rattle.geometry.specs.Header.{place}
 use Rattle.geometry.specs.Frame.{framed-same}
 use Rattle.drives.specs.Front.{front-put, drive-same}
-use Rattle.drives.specs.Table.{sourceDrive}
 use Rattle.command.specs.declared.Source.{Source}
 use Rattle.command.specs.Command.{sourceOf}
-use Rattle.meaning.specs.Acts.{homeOf, startOf, sourceBlocks, sourcesFrom, intData, gathered}
+use Rattle.meaning.specs.Acts.{homeOf, startOf, sourcesFrom, intData, gathered}
 use Rattle.gather.specs.declared.Job.{Job}
-use Rattle.gather.specs.Job.{size, summed, Named, Ready}
-use Rattle.gather.specs.Pieces.{entriesFrom, Found, NoneOrAll}
+use Rattle.gather.specs.Job.{size, summed, Ready}
+use Rattle.gather.specs.Pieces.{entriesFrom, NoneOrAll}
 use Rattle.gather.specs.Whole.{summed-short}
 
 module _ (s : List ℕ) (g : Geometry) (sent : List ℕ) (j : Job) (r : Ready s g sent j) (ys : List ℕ) (short : length ys ≤ size g j) where

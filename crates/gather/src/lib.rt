@@ -55,12 +55,12 @@ pub fn at_once(image: &mut [u8], g: Geometry, sent: &[u8], j: Job)
     sources::find_all(image, g, j.sum.came, sent, j.sources, &mut places);
     let last = j.sources;
     places[last] = j.from;
-    let n = in_image(j);
+    let n = operands_in_image(j);
     pieces::all(image, g, sent, j, &places[..n]);
 }
 
 // How many operands lie in the image.
-fn in_image(j: Job) -> usize
+fn operands_in_image(j: Job) -> usize
     requires { ⌜ j .sources < 256 ⌝ }
     ensures { λ r. ⌜ r ≡ j .sources + cond (j .own) 1 0 ⌝ }
 {

@@ -2,11 +2,11 @@
 use mathlib.Core.Path.{_≡_, refl, sym, ap, _∙_}
 use mathlib.Core.Logic.{_⊎_}
 use Prim.Native.Nat.{ℕ, zero, suc, _+_, _-_, _≤_, _<_}
-use native.Mathlib.Nat.{zero-add, le-refl, le-of-suc-le-suc, not-suc-le-zero}
+use native.Mathlib.Nat.{zero-add, le-refl}
 use native.Mathlib.Numerals.{add-one}
 use native.Mathlib.Omega.{arith}
 use mathlib.Core.List.{List, [], _∷_, _++_}
-use lib.ListN.{length, getD, take, drop, replicate, length-take, length-drop, drop-of-length-le}
+use lib.ListN.{length, getD, take, drop, length-take, length-drop, drop-of-length-le}
 use lib.Seq.{getD-take, getD-drop, take-take, drop-drop, take-nil, take-add, drop-cons, take-all, take-length, take-at, drop-at}
 
 -- the n bytes from index at on, or as many as there are
@@ -72,18 +72,6 @@ part-past xs at n h = ap (take n) (drop-of-length-le xs h) ∙ take-nil n
 
 pub part-nil : (at n : ℕ) → part [] at n ≡ []
 part-nil at n = part-past [] at n (omega arith)
-
--- a part of zeros
-take-zeros : (n m : ℕ) → n ≤ m → take {A = ℕ} n (replicate m 0) ≡ replicate n 0
-take-zeros zero m h = refl
-take-zeros (suc n) zero h = absurd (not-suc-le-zero h)
-take-zeros (suc n) (suc m) h = ap (λ (r : List ℕ). 0 ∷ r) (take-zeros n m (le-of-suc-le-suc h))
-
-pub part-zeros : (m at n : ℕ) → at + n ≤ m → part (replicate m 0) at n ≡ replicate n 0
-unfolding part
-part-zeros m zero n h = take-zeros n m (omega arith)
-part-zeros zero (suc at) n h = absurd (let z : suc at + n ≤ 0 = h in omega arith)
-part-zeros (suc m) (suc at) n h = part-zeros m at n (let z : suc at + n ≤ suc m = h in omega arith)
 
 -- what a shared `&xs[at..at + n]` is to the borrow checker
 pub mid-part : (xs : List ℕ) (at n : ℕ) → take (at + n - at) (drop at xs) ≡ part xs at n

@@ -1,5 +1,5 @@
 -- `gather::operands::xor_rest` meets its contract. It calls itself with one source fewer, so its measure is how many are left.
-use mathlib.Core.Path.{refl, _∙_}
+use mathlib.Core.Path.{_∙_}
 use native.Mathlib.Omega.{arith}
 use Rattle.gather.specs.Starts.{entry-named}
 use Rattle.gather.specs.InTurn.{entry-in, rest-end, rest-more}
@@ -46,21 +46,15 @@ start-requires t c κs =
 
 add-xor-from : (t : ℕ) → lts.Need-add-xor-from (claims t) (at-count t) reads.Post
 add-xor-from t c =
-    let pre = c .before .before .before .before .before .before .before .pre in
-    let args = c .before .before .before .before .before .before .before .args in
-    let if1 = c .before .before .before .if1 in
-    let read = c .before .before .read in
-    let start = c .before .start in
-    omega (arith, pre .1 .2, entry-in _ _ _ _ (args .i) _ _ (pre .1 .0) (omega (arith, if1 .left)) (read .ensures .0) (start .ensures))
+    let at-start = c .before .before .before .before .before .before .before in
+    let inside = entry-in _ _ _ _ (at-start .args .i) _ _ (at-start .pre .1 .0) (omega (arith, c .before .before .before .if1 .left)) (c .before .before .read .ensures .0) (c .before .start .ensures) in
+    omega (arith, at-start .pre .1 .2, inside)
 
 xor-from-requires : (t : ℕ) → lts.Need-xor-from-requires (claims t) (at-count t) reads.Post
 xor-from-requires t c κs =
-    let pre = c .before .before .before .before .before .before .before .pre in
-    let args = c .before .before .before .before .before .before .before .args in
-    let if1 = c .before .before .before .if1 in
-    let read = c .before .before .read in
-    let start = c .before .start in
-    omega (arith, pre .1 .2, entry-in _ _ _ _ (args .i) _ _ (pre .1 .0) (omega (arith, if1 .left)) (read .ensures .0) (start .ensures))
+    let at-start = c .before .before .before .before .before .before .before in
+    let inside = entry-in _ _ _ _ (at-start .args .i) _ _ (at-start .pre .1 .0) (omega (arith, c .before .before .before .if1 .left)) (c .before .before .read .ensures .0) (c .before .start .ensures) in
+    omega (arith, at-start .pre .1 .2, inside)
 
 add-xor-rest : (t : ℕ) → lts.Need-add-xor-rest (claims t) (at-count t) reads.Post
 add-xor-rest t c =

@@ -3,7 +3,7 @@ use mathlib.Core.Path.{_∙_}
 use native.Mathlib.Omega.{arith}
 use borrow.Author.Needs.{needs}
 use Rattle.gather.specs.InTurn.{in-turn}
-use Rattle.gather.specs.AtOnce.{found-within, at-once}
+use Rattle.gather.specs.AtOnce.{known-within, at-once}
 use Rattle.gather.proofs.pieces.from_image.Statement.{statement}
 use Rattle.gather.proofs.pieces.from_image.Tie as tie
 
@@ -25,7 +25,7 @@ xor-parts-requires : tie.Need-xor-parts-requires
 xor-parts-requires c κs =
     let pre = c .before .before .before .before .before .before .pre in
     let if1 = c .before .if1 in
-    (found-within _ _ _ _ (pre .0) _ (pre .1 (if1 .left)) _ _ (pre .2), omega (arith, if1 .left))
+    (known-within _ _ _ _ (pre .0) _ (pre .1 (if1 .left)) _ _ (pre .2), omega (arith, if1 .left))
 
 returns-2 : tie.Need-returns-2
 returns-2 c =
