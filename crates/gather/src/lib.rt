@@ -24,7 +24,7 @@ pub struct Job {
 }
 
 // The XOR goes to its place. Here it is said which path the step takes: the plain one where one piece
-// holds the range and at most eight sources keep its recursion flat, and else the faster one.
+// holds the range, and at most eight sources keep its recursion flat; else the faster one.
 pub fn gather(image: &mut [u8], g: Geometry, sent: &[u8], j: Job)
     requires { ⌜ Ready (now image) g (now sent) j ⌝ }
     ensures { λ _. ⌜ now (image .exit) ≡ put (now (image .entry)) (j .to) (summed (now (image .entry)) g (now (sent .entry)) j) ⌝ }
@@ -36,7 +36,8 @@ pub fn gather(image: &mut [u8], g: Geometry, sent: &[u8], j: Job)
     at_once(image, g, sent, j);
 }
 
-// The plain path: source entry by source entry, each looked up when its turn comes.
+// The plain path: source entry by source entry, each looked up when its turn comes, so that no place is
+// known before.
 pub fn in_turn(image: &mut [u8], g: Geometry, sent: &[u8], j: Job)
     requires { ⌜ Ready (now image) g (now sent) j ⌝ }
     ensures { λ _. ⌜ now (image .exit) ≡ put (now (image .entry)) (j .to) (summed (now (image .entry)) g (now (sent .entry)) j) ⌝ }

@@ -1,4 +1,5 @@
-// The operands of one piece, on the plain path: the bytes from o on of each, as many as the piece has.
+// The operands of one piece that are taken in turn: the bytes from o on of each, as many as the piece
+// has.
 use crate::Job;
 use crate::sources;
 use command::Source;
@@ -26,8 +27,8 @@ pub fn seed(acc: &mut [u8], image: &[u8], own: bool, from: usize)
     octets::fill_zero(acc);
 }
 
-// XORs into acc the bytes from o on of the sources left, from entry i on: that of the first of them, and
-// then, in turn, of the rest.
+// XORs into acc the bytes from o on of the sources left, from entry i on: those of entry i, and then "the
+// rest of the list XORed in turn".
 pub fn xor_rest(
     acc: &mut [u8],
     image: &[u8],
