@@ -5,16 +5,16 @@ use native.Mathlib.Omega.{arith}
 use mathlib.Core.Path.{_≡_, refl, sym, ap, ap₂, _∙_}
 use mathlib.Core.Bool.{Bool, true, false, cond}
 use mathlib.Core.Logic.{⊎-elim}
-use mathlib.Core.List.{List, []}
+use mathlib.Core.List.{List, [], _∷_}
 use lib.ListN.{length, getD, set, take, length-set}
 use lib.Seq.{getD-set-same, getD-set-other, getD-take, length-take-le}
 use Rattle.folds.specs.Cases.{order}
-use Rattle.octets.specs.Part.{part, part-part, part-nil}
+use Rattle.octets.specs.Part.{part, part-part}
 use Rattle.octets.specs.Xor.{_⊻_, nil-xor, xor-commutes, part-xor}
-use Rattle.octets.specs.Operands.{xorAll, xorAll-one, xorAll-append}
+use Rattle.octets.specs.Operands.{xorAll, xorAll-one, xorAll-append, partsOf, part-xorAll}
 use Rattle.geometry.specs.declared.Geometry.{Geometry}
 use Rattle.command.specs.Command.{sourceOf}
-use Rattle.meaning.specs.Acts.{startOf, sourceBlocks, sourcesFrom}
+use Rattle.meaning.specs.Acts.{startOf, sourcesFrom}
 use Rattle.passes.specs.Parts.{partsFrom, partsAt, Within}
 use Rattle.passes.specs.Steps.{parts-add}
 use Rattle.gather.specs.declared.Job.{Job}
@@ -72,15 +72,16 @@ module _ (s : List ℕ) (g : Geometry) (sent : List ℕ) (j : Job) (r : Ready s 
           let n : length places ≡ j .sources + 0 = f .all ∙ ap (λ (b : Bool). j .sources + cond b 1 0) e in
           omega (arith, f .source i (omega arith), r .inside i (omega arith))
 
-  entries-at : (i left : ℕ) → i + left ≤ j .sources → xorAll (partsFrom s places o k i left) ≡ part (xorAll (entriesFrom s g sent j i left)) o k
-  unfolding partsFrom sourcesFrom xorAll
-  entries-at i zero m = sym (part-nil o k)
+  entries-at : (i left : ℕ) → i + left ≤ j .sources → partsFrom s places o k i left ≡ partsOf o k (entriesFrom s g sent j i left)
+  unfolding partsFrom sourcesFrom partsOf
+  entries-at i zero m = refl
   entries-at i (suc left) m =
-      let start = startOf s g (j .sum .came) (sourceOf sent i) in
-      ap₂ (λ (x y : List ℕ). x ⊻ y)
-      (ap (λ (p : ℕ). part s (p + o) k) (f .source i (omega arith)) ∙ sym (part-part s start (size g j) o k h))
+      ap₂ (λ (x : List ℕ) (xs : List (List ℕ)). x ∷ xs)
+      (ap (λ (p : ℕ). part s (p + o) k) (f .source i (omega arith)) ∙ sym (part-part s (startOf s g (j .sum .came) (sourceOf sent i)) (size g j) o k h))
       (entries-at (i + 1) left (omega arith))
-      ∙ sym (part-xor (sourceBlocks s g (j .sum .came) sent (j .count) i) (xorAll (entriesFrom s g sent j (i + 1) left)) o k)
+
+  all-entries : xorAll (partsFrom s places o k 0 (j .sources)) ≡ part (xorAll (entriesFrom s g sent j 0 (j .sources))) o k
+  all-entries = ap xorAll (entries-at 0 (j .sources) (omega arith)) ∙ sym (part-xorAll (entriesFrom s g sent j 0 (j .sources)) o k)
 
   pub at-once : xorAll (partsAt s places o k) ≡ part (inImage s g sent j) o k
   unfolding inImage partsFrom
@@ -97,7 +98,7 @@ module _ (s : List ℕ) (g : Geometry) (sent : List ℕ) (j : Job) (r : Ready s 
           ap (λ (m : ℕ). xorAll (partsFrom s places o k 0 m)) n
           ∙ ap xorAll (parts-add s places o k 0 (j .sources) 1)
           ∙ xorAll-append (partsFrom s places o k 0 (j .sources)) (partsFrom s places o k (0 + j .sources) 1)
-          ∙ ap₂ (λ (x y : List ℕ). x ⊻ y) (entries-at 0 (j .sources) (omega arith))
+          ∙ ap₂ (λ (x y : List ℕ). x ⊻ y) all-entries
           (xorAll-one (part s (getD places (0 + j .sources) 0 + o) k)
           ∙ ap (λ (i : ℕ). part s (getD places i 0 + o) k) z
           ∙ ap (λ (p : ℕ). part s (p + o) k) (f .own e)
@@ -107,4 +108,4 @@ module _ (s : List ℕ) (g : Geometry) (sent : List ℕ) (j : Job) (r : Ready s 
       by false e =
           let n : length places ≡ j .sources + 0 = f .all ∙ ap (λ (b : Bool). j .sources + cond b 1 0) e in
           let q : length places ≡ j .sources = omega arith in
-          ap (λ (m : ℕ). xorAll (partsFrom s places o k 0 m)) q ∙ entries-at 0 (j .sources) (omega arith) ∙ ap (λ (x : List ℕ). part x o k) (sym (nil-xor v))
+          ap (λ (m : ℕ). xorAll (partsFrom s places o k 0 m)) q ∙ all-entries ∙ ap (λ (x : List ℕ). part x o k) (sym (nil-xor v))

@@ -1,8 +1,6 @@
 -- Parts of one list of bytes, by the places where they start.
-use Prim.Native.Nat.{ℕ, zero, suc, _+_, _-_, _≤_, _<_}
-use mathlib.Core.Bool.{cond}
+use Prim.Native.Nat.{ℕ, zero, suc, _+_, _≤_, _<_}
 use mathlib.Core.List.{List, [], _∷_}
-use lib.Dec.{ltb}
 use lib.ListN.{length, getD}
 use Rattle.octets.specs.Part.{part}
 
@@ -18,11 +16,3 @@ partsAt xs places o k = partsFrom xs places o k 0 (length places)
 -- n bytes at each place are in the list
 abbrev pub Within : List ℕ → List ℕ → ℕ → Type 0
 Within xs places n = (i : ℕ) → i < length places → getD places i 0 + n ≤ length xs
-
--- ---- how many of n parts the code takes at once: first, and then from part i on
-
-abbrev pub first : ℕ → ℕ
-first n = cond (ltb n 8) 1 8
-
-abbrev pub atOnce : ℕ → ℕ → ℕ
-atOnce n i = cond (ltb (n - i) 4) 1 4

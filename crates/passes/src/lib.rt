@@ -1,11 +1,11 @@
 // The XOR of many parts of one slice, in few passes: eight parts at once where there are as many, four
 // of the others at once, and then one by one.
 ghost use mathlib.Core.Path.{_≡_};
-ghost use Prim.Native.Nat.{_+_, _<_};
+ghost use Prim.Native.Nat.{_+_, _<_, _≤_};
 ghost use lib.ListN.{length};
 ghost use Rattle.octets.specs.Xor.{_⊻_};
 ghost use Rattle.octets.specs.Operands.{xorAll};
-ghost use Rattle.passes.specs.Parts.{partsFrom, partsAt, first, atOnce, Within};
+ghost use Rattle.passes.specs.Parts.{partsFrom, partsAt, Within};
 
 // Writes over acc the XOR of the parts of xs, one at each place: as many bytes as acc has, from byte o
 // of the part on. There is one place at least.
@@ -25,7 +25,7 @@ pub fn xor_parts(acc: &mut [u8], xs: &[u8], places: &[usize], o: usize)
 // how many parts that were.
 fn xor_first(acc: &mut [u8], xs: &[u8], places: &[usize], o: usize) -> usize
     requires { ⌜ Within (now xs) (now places) (o + length (now acc)) × (0 < length (now places)) ⌝ }
-    ensures { λ r. ⌜ (r ≡ first (length (now (places .entry)))) × (now (acc .exit) ≡ xorAll (partsFrom (now (xs .entry)) (now (places .entry)) o (length (now (acc .entry))) 0 (first (length (now (places .entry)))))) ⌝ }
+    ensures { λ r. ⌜ (now (acc .exit) ≡ xorAll (partsFrom (now (xs .entry)) (now (places .entry)) o (length (now (acc .entry))) 0 r)) × (0 < r) × (r ≤ length (now (places .entry))) ⌝ }
 {
     if places.len() < 8 {
         octets::copy_from(acc, xs, places[0] + o);
@@ -50,7 +50,7 @@ fn xor_first(acc: &mut [u8], xs: &[u8], places: &[usize], o: usize) -> usize
 // were.
 fn xor_next(acc: &mut [u8], xs: &[u8], places: &[usize], i: usize, o: usize) -> usize
     requires { ⌜ Within (now xs) (now places) (o + length (now acc)) × (i < length (now places)) ⌝ }
-    ensures { λ r. ⌜ (r ≡ atOnce (length (now (places .entry))) i) × (now (acc .exit) ≡ now (acc .entry) ⊻ xorAll (partsFrom (now (xs .entry)) (now (places .entry)) o (length (now (acc .entry))) i (atOnce (length (now (places .entry))) i))) ⌝ }
+    ensures { λ r. ⌜ (now (acc .exit) ≡ now (acc .entry) ⊻ xorAll (partsFrom (now (xs .entry)) (now (places .entry)) o (length (now (acc .entry))) i r)) × (0 < r) × (i + r ≤ length (now (places .entry))) ⌝ }
 {
     if places.len() - i < 4 {
         octets::xor_from(acc, xs, places[i] + o);

@@ -1,10 +1,10 @@
 -- `passes::xor_first` meets its contract.
+use mathlib.Core.Path.{_∙_}
 use Prim.Native.Nat.{_+_}
 use native.Mathlib.Omega.{arith}
 use lib.ListN.{length}
-use borrow.Author.Tests.{lt-ltb, le-ltb}
 use borrow.Author.Needs.{needs}
-use Rattle.passes.specs.Steps.{first-one, first-eight, first-inside}
+use Rattle.passes.specs.Steps.{one-part, eight-parts, first-inside}
 use Rattle.passes.proofs.xor_first.Statement.{statement}
 use Rattle.passes.proofs.xor_first.Tie as tie
 
@@ -20,9 +20,9 @@ copy-from-requires c κs =
 
 returns : tie.Need-returns
 returns c =
-    let if1 = c .before .before .before .before .before .if1 in
+    let pre = c .before .before .before .before .before .before .before .before .before .pre in
     let copy-from = c .before .before .copy-from in
-    (rw (lt-ltb _ 8 (if1 .taken)), first-one _ _ _ _ _ _ (if1 .taken) (copy-from .ensures))
+    (copy-from .ensures ∙ one-part _ _ _ _ 0, omega arith, omega (arith, pre .1))
 
 add-xor-eight-over : tie.Need-add-xor-eight-over
 add-xor-eight-over c =
@@ -83,7 +83,7 @@ returns-2 : tie.Need-returns-2
 returns-2 c =
     let if1 = c .before .before .before .before .before .before .before .before .before .before .before .before .if1 in
     let xor-eight-over = c .before .before .xor-eight-over in
-    (rw (le-ltb _ 8 (if1 .left)), first-eight _ _ _ _ _ _ (if1 .left) (xor-eight-over .ensures))
+    (eight-parts _ _ _ _ _ (xor-eight-over .ensures), omega arith, omega (arith, if1 .left))
 
 pub xor-first-spec : {M : Type 1} → statement M
 xor-first-spec =

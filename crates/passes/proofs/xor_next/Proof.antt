@@ -1,10 +1,11 @@
 -- `passes::xor_next` meets its contract.
+use mathlib.Core.Path.{ap, _∙_}
 use Prim.Native.Nat.{_+_}
 use native.Mathlib.Omega.{arith}
 use lib.ListN.{length}
-use borrow.Author.Tests.{lt-ltb, le-ltb}
 use borrow.Author.Needs.{needs}
-use Rattle.passes.specs.Steps.{next-one, next-four, next-inside}
+use Rattle.octets.specs.Xor.{_⊻_}
+use Rattle.passes.specs.Steps.{one-part, four-parts, next-inside}
 use Rattle.passes.proofs.xor_next.Statement.{statement}
 use Rattle.passes.proofs.xor_next.Tie as tie
 
@@ -22,10 +23,9 @@ xor-from-requires c κs =
 
 returns : tie.Need-returns
 returns c =
-    let if1 = c .before .before .before .before .before .if1 in
-    let args = c .before .before .before .before .before .before .before .before .before .args in
+    let start = c .before .before .before .before .before .before .before .before .before in
     let xor-from = c .before .before .xor-from in
-    (rw (lt-ltb _ 4 (if1 .taken)), next-one _ _ _ _ _ (args .i) _ _ (if1 .taken) (xor-from .ensures))
+    (xor-from .ensures ∙ ap (_⊻_ _) (one-part _ _ _ _ (start .args .i)), omega arith, omega (arith, start .pre .1))
 
 add-a : tie.Need-add-a
 add-a c =
@@ -61,9 +61,9 @@ xor-four-from-requires c κs =
 returns-2 : tie.Need-returns-2
 returns-2 c =
     let if1 = c .before .before .before .before .before .before .before .before .if1 in
-    let args = c .before .before .before .before .before .before .before .before .before .before .before .before .args in
+    let start = c .before .before .before .before .before .before .before .before .before .before .before .before in
     let xor-four-from = c .before .before .xor-four-from in
-    (rw (le-ltb _ 4 (if1 .left)), next-four _ _ _ _ _ (args .i) _ _ (if1 .left) (xor-four-from .ensures))
+    (four-parts _ _ _ _ (start .args .i) _ _ (xor-four-from .ensures), omega arith, omega (arith, if1 .left, start .pre .1))
 
 pub xor-next-spec : {M : Type 1} → statement M
 xor-next-spec =

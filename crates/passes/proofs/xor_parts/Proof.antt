@@ -5,7 +5,7 @@ use native.Mathlib.Omega.{arith}
 use lib.ListN.{length}
 use Rattle.octets.specs.Operands.{xorAll}
 use Rattle.passes.specs.Parts.{partsFrom}
-use Rattle.passes.specs.Steps.{parts-more, parts-done, some-first, some-at-once}
+use Rattle.passes.specs.Steps.{parts-more, parts-done}
 use Rattle.passes.proofs.xor_parts.Statement.{statement}
 use Rattle.passes.proofs.xor_parts.Tie as tie
 
@@ -22,7 +22,7 @@ loop-holds : tie.Need-loop-holds Inv-loop μ-loop
 loop-holds c =
     let xor-first = c .before .before .xor-first in
     let pre = c .before .before .before .before .before .before .before .pre in
-    (omega (arith, xor-first .ensures .0, some-first _ (pre .1)), refl, rw (xor-first .kept .0, xor-first .ensures .0) (xor-first .ensures .1))
+    (xor-first .ensures .2, refl, rw (xor-first .kept .0) (xor-first .ensures .0))
 
 xor-next-requires : tie.Need-xor-next-requires Inv-loop μ-loop
 xor-next-requires c κs =
@@ -36,21 +36,21 @@ add-i c =
     let xor-next = c .before .before .xor-next in
     let the-loop = c .before .before .before .before .before .loop in
     let loop-test = c .before .before .before .before .loop-test in
-    omega (arith, xor-next .ensures .0, some-at-once _ (the-loop .i) (loop-test .taken))
+    omega (arith, xor-next .ensures .1, xor-next .ensures .2)
 
 loop-less : tie.Need-loop-less Inv-loop μ-loop
 loop-less c =
     let xor-next = c .before .before .xor-next in
     let the-loop = c .before .before .before .before .before .loop in
     let loop-test = c .before .before .before .before .loop-test in
-    omega (arith, xor-next .ensures .0, some-at-once _ (the-loop .i) (loop-test .taken))
+    omega (arith, xor-next .ensures .1, xor-next .ensures .2)
 
 loop-again : tie.Need-loop-again Inv-loop μ-loop
 loop-again c =
     let xor-next = c .before .before .xor-next in
     let the-loop = c .before .before .before .before .before .loop in
     let loop-test = c .before .before .before .before .loop-test in
-    (omega (arith, xor-next .ensures .0, some-at-once _ (the-loop .i) (loop-test .taken)), omega (arith, xor-next .kept .0), parts-more _ _ _ _ (the-loop .i) _ _ _ _ _ (the-loop .inv .2) (xor-next .ensures .0) (the-loop .inv .1) (xor-next .ensures .1))
+    (omega (arith, xor-next .ensures .1, xor-next .ensures .2), omega (arith, xor-next .kept .0), parts-more _ _ _ _ (the-loop .i) _ _ _ _ (the-loop .inv .2) (the-loop .inv .1) (xor-next .ensures .0))
 
 same-length : tie.Need-same-length Inv-loop μ-loop
 same-length c = omega (arith, c .before .before .before .before .xor-first .kept .0)
