@@ -26,5 +26,5 @@ pub use as_second::{mark, reset, step, Call, StepCall};
 pub use blocks::{xor, xor_four};
 pub use lines::answer_line;
 pub use second::{case_line, listing, parse_line, rows};
-pub use second::{Good, Reached, Refusal, Shelf, StepOutcome, SENSE_SIZE};
+pub use second::{Good, Random, Reached, Refusal, Shelf, StepOutcome, SENSE_SIZE};
 pub use through_c::{through_c, Empty};

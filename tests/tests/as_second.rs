@@ -1,5 +1,5 @@
 //! The tests of `second` once more, with every call made through the C interface: C1 to C11 and
-//! all other cases whose bytes are known, and the recorded ones.
+//! all other cases whose bytes are known, the recorded ones, and laws of lists on random shelves.
 
 // Each file of tests loads `common`.
 #![allow(clippy::duplicate_mod)]
@@ -12,6 +12,8 @@ mod bench_cases;
 mod blocks;
 #[path = "../../second/tests/c_interface.rs"]
 mod c_interface;
+#[path = "../../second/tests/divided.rs"]
+mod divided;
 #[path = "../../second/tests/fields.rs"]
 mod fields;
 #[path = "../../second/tests/image.rs"]

@@ -16,3 +16,4 @@ pub mod Rebuilds
 pub mod Operands
 pub mod Example
 pub mod Drives
+pub mod Otherwise

@@ -1,12 +1,13 @@
 -- The parameter list of REBUILD and REGENERATE as bytes, and what the step reads from them.
 use Prim.Native.Nat.{ℕ, zero, suc, _+_, _*_, _<_}
-use native.Mathlib.Nat.{not-suc-le-zero, mul-suc}
+use native.Mathlib.Nat.{not-suc-le-zero, mul-suc, add-zero}
 use native.Mathlib.Omega.{arith}
 use mathlib.Core.Path.{_≡_, refl, sym, ap, ap₂, _∙_}
 use mathlib.Core.List.{List, [], _∷_, _++_}
 use lib.Dec.{lit≤}
 use lib.ListN.{length, getD, take, drop}
-use lib.Seq.{drop-append-add, take-length}
+use lib.Seq.{drop-append-add}
+use Rattle.folds.specs.Each.{EachIs, each-at}
 use Rattle.octets.specs.Part.{part, part-part, take-part}
 use Rattle.octets.specs.Number.{num, toBe, be, num-toBe-lt}
 use Rattle.command.specs.declared.Source.{Source}
@@ -36,6 +37,19 @@ listOf block es d = headBytes (length es) block ++ entriesBytes es d
 
 -- ---- what is read
 
+-- the sources that data-out bytes name, "8 bytes per source": the entries left, from entry i on
+unfoldable pub entriesFrom : List ℕ → ℕ → ℕ → List Source
+entriesFrom s i zero = []
+entriesFrom s i (suc left) = sourceOf s i ∷ entriesFrom s (i + 1) left
+
+-- "byte 0 number of sources"
+abbrev pub entriesOf : List ℕ → List Source
+entriesOf s = entriesFrom s 0 (getD s 0 0)
+
+-- what "starts right after the list"
+abbrev pub behind : List ℕ → List ℕ
+behind s = drop (8 + 8 * getD s 0 0) s
+
 -- the bytes s start with the head of a list of n sources with this own block
 pub record Headed (s : List ℕ) (n block : ℕ) : Type 0 where
   pub number : getD s 0 0 ≡ n
@@ -63,15 +77,22 @@ entry-bytes (e ∷ es) d (suc i) l =
     ∙ ap (take 8) (drop-append-add (entryBytes e) (entriesBytes es d) (8 * i))
     ∙ entry-bytes es d i (omega arith)
 
--- behind the entries
-behind : (es : List Source) (d : List ℕ) → drop (8 * length es) (entriesBytes es d) ≡ d
+drop-entries : (es : List Source) (d : List ℕ) → drop (8 * length es) (entriesBytes es d) ≡ d
 unfolding toBe
-behind [] d = refl
-behind (e ∷ es) d =
+drop-entries [] d = refl
+drop-entries (e ∷ es) d =
     let q : 8 * suc (length es) ≡ 8 + 8 * length es = omega (arith, mul-suc 8 (length es)) in
     ap (λ (k : ℕ). drop k (entriesBytes (e ∷ es) d)) q
     ∙ drop-append-add (entryBytes e) (entriesBytes es d) (8 * length es)
-    ∙ behind es d
+    ∙ drop-entries es d
+
+-- entries that are read one by one
+entries-are : (s : List ℕ) (es : List Source) (i : ℕ) → ((j : ℕ) → j < length es → sourceOf s (i + j) ≡ getD es j (source 0 0)) → entriesFrom s i (length es) ≡ es
+unfolding entriesFrom
+entries-are s [] i h = refl
+entries-are s (e ∷ es) i h =
+    ap₂ (λ (x : Source) (xs : List Source). x ∷ xs) (ap (sourceOf s) (sym (add-zero i)) ∙ h 0 (omega arith))
+    (entries-are s es (i + 1) (λ j l. let q : i + 1 + j ≡ i + suc j = omega arith in rw q (h (suc j) (omega arith))))
 
 module _ (block : ℕ) (es : List Source) (d : List ℕ) where
   abbrev list : List ℕ
@@ -98,8 +119,10 @@ module _ (block : ℕ) (es : List Source) (d : List ℕ) where
       (ap num (sym (take-part list (8 + 8 * i) 8 4 (lit≤ tt)) ∙ ap (take 4) (entry-in i l)) ∙ num-toBe-lt 4 (e .address .0) (h .address-small))
       (ap num (sym (part-part list (8 + 8 * i) 8 4 4 (lit≤ tt)) ∙ ap (λ (r : List ℕ). part r 4 4) (entry-in i l)) ∙ num-toBe-lt 4 (e .block .0) (h .block-small))
 
+  pub list-entries : EachIs Fitting es → entriesOf list ≡ es
+  list-entries fit = entries-are list es 0 (λ j l. let e : 0 + j ≡ j = omega arith in rw e (list-source j l (each-at Fitting es (source 0 0) fit j l)))
+
   -- and the intermediate data is what stands behind
-  pub list-data : part list (8 + 8 * length es) (length d) ≡ d
-  unfolding part toBe
-  list-data =
-      ap (take (length d)) (drop-append-add (headBytes (length es) block) (entriesBytes es d) (8 * length es) ∙ behind es d) ∙ take-length d
+  pub list-behind : behind list ≡ d
+  unfolding toBe
+  list-behind = drop-append-add (headBytes (length es) block) (entriesBytes es d) (8 * length es) ∙ drop-entries es d

@@ -1,13 +1,13 @@
 -- What REBUILD and REGENERATE gather by a list that was written from its sources, and both with such a list.
-use Prim.Native.Nat.{ℕ, suc, _+_, _*_, _≤_, _<_}
-use native.Mathlib.Nat.{add-zero}
+use Prim.Native.Nat.{ℕ, zero, suc, _+_, _*_, _≤_, _<_}
 use native.Mathlib.Omega.{arith}
 use mathlib.Core.Bool.{Bool, true, false, cond}
 use mathlib.Core.Path.{_≡_, refl, sym, ap, ap₂, subst, _∙_}
 use mathlib.Core.Logic.{_⊎_}
 use mathlib.Core.List.{List, [], _∷_, _++_, map}
 use lib.Dec.{eqb}
-use lib.ListN.{length, getD, replicate}
+use lib.ListN.{length, getD, take, drop, replicate, length-drop}
+use lib.Seq.{take-all}
 use Rattle.octets.specs.Part.{part}
 use Rattle.octets.specs.Put.{put}
 use Rattle.octets.specs.Xor.{_⊻_, xor-regroups, xor-itself}
@@ -30,9 +30,9 @@ use Rattle.demands_one_two.specs.Effects.{resultIn}
 use Rattle.results.specs.Results.{results}
 use Rattle.meaning.specs.Allowed.{Blocks, Limited, Sourced}
 use Rattle.callers.specs.Bytes.{rebuildCdb, regenerateCdb}
-use Rattle.callers.specs.Lists.{source, listOf, list-headed, list-data}
+use Rattle.callers.specs.Lists.{listOf, entriesFrom, entriesOf, behind, list-long, list-headed, list-behind}
 use Rattle.callers.specs.Does.{summing, blocks, Does, Target}
-use Rattle.callers.specs.Sources.{Names, read-as, list-sourced}
+use Rattle.callers.specs.Sources.{Names, read-all, list-sourced}
 use Rattle.callers.specs.Listed.{ListByte, HowLong}
 use Rattle.callers.specs.Rebuilds.{rebuild-goes, regenerate-goes}
 use Rattle.callers.specs.Goes.{exactly, does}
@@ -52,28 +52,31 @@ cancels m g a n e es int d =
     let rest = xorAll (operands m g a n es int d) in
     sym (xor-regroups x x rest) ∙ ap (λ (z : List ℕ). z ⊻ rest) (xor-itself x)
 
-from-sources : (m : List ℕ) (g : Geometry) (a : Came) (n : ℕ) (s : List ℕ) (es : List Source) (i : ℕ)
-    → ((j : ℕ) → j < length es → sourceOf s (i + j) ≡ getD es j (source 0 0)) → sourcesFrom m g a s n i (length es) ≡ map (namedBlocks m g a n) es
-unfolding sourcesFrom
-from-sources m g a n s [] i h = refl
-from-sources m g a n s (e ∷ es) i h =
-    ap₂ (λ (x : List ℕ) (xs : List (List ℕ)). x ∷ xs)
-    (ap (namedBlocks m g a n) (ap (sourceOf s) (sym (add-zero i)) ∙ h 0 (omega arith)))
-    (from-sources m g a n s es (i + 1) (λ j l. let e : i + 1 + j ≡ i + suc j = omega arith in rw e (h (suc j) (omega arith))))
+pub named-entries : (m : List ℕ) (g : Geometry) (a : Came) (s : List ℕ) (n i left : ℕ) → sourcesFrom m g a s n i left ≡ map (namedBlocks m g a n) (entriesFrom s i left)
+unfolding sourcesFrom entriesFrom
+named-entries m g a s n i zero = refl
+named-entries m g a s n i (suc left) = ap (λ (xs : List (List ℕ)). namedBlocks m g a n (sourceOf s i) ∷ xs) (named-entries m g a s n (i + 1) left)
+
+-- what REBUILD and REGENERATE gather is the XOR of the operands that the list names
+pub gathered-entries : (m : List ℕ) (g : Geometry) (a : Came) (s : List ℕ) (n int : ℕ) → length s ≡ 8 + 8 * getD s 0 0 + cond (eqb int 0) 0 (n * g .l)
+    → gathered m g s n (summing a int) ≡ xorAll (operands m g a n (entriesOf s) int (behind s))
+unfolding gathered part
+gathered-entries m g a s n int exact =
+    ap₂ (λ (xs ys : List (List ℕ)). xorAll (xs ++ ys)) (named-entries m g a s n 0 (getD s 0 0)) (pick (eqb int 0) exact)
+  where
+    at : ℕ
+    at = 8 + 8 * getD s 0 0
+
+    pick : (u : Bool) → length s ≡ at + cond u 0 (n * g .l) → cond u [] (take (n * g .l) (drop at s) ∷ []) ≡ cond u [] (drop at s ∷ [])
+    pick true e = refl
+    pick false e = ap (λ (ys : List ℕ). ys ∷ []) (take-all (n * g .l) (drop at s) (omega (arith, length-drop at s)))
 
 module _ (m : List ℕ) (g : Geometry) (a : Came) (t : ℕ) (h : Target m g a t) (b n : ℕ) (es : List Source) (int : ℕ) (d : List ℕ)
     (each : EachIs (Names m g a (blocks t b n)) es) (long : length d ≡ cond (eqb int 0) 0 (n * g .l)) where
-  data-is : (u : Bool) → length d ≡ cond u 0 (n * g .l)
-      → cond u [] (part (listOf b es d) (8 + 8 * length es) (n * g .l) ∷ []) ≡ cond u [] (d ∷ [])
-  data-is true e = refl
-  data-is false e = ap (λ (x : List ℕ). x ∷ []) (ap (part (listOf b es d) (8 + 8 * length es)) (sym e) ∙ list-data b es d)
-
   gathered-is : gathered m g (listOf b es d) n (summing a int) ≡ xorAll (operands m g a n es int d)
-  unfolding gathered
   gathered-is =
-      ap₂ (λ (xs ys : List (List ℕ)). xorAll (xs ++ ys))
-      (from-sources m g a n (listOf b es d) es 0 (λ j l. let e : 0 + j ≡ j = omega arith in rw e (read-as m g (h .shelf) a (blocks t b n) b es d each j l)))
-      (data-is (eqb int 0) long)
+      gathered-entries m g a (listOf b es d) n int (omega (arith, list-long b es d))
+      ∙ ap₂ (λ (xs : List Source) (ys : List ℕ). xorAll (operands m g a n xs int ys)) (read-all m g (h .shelf) a (blocks t b n) b es d each) (list-behind b es d)
 
   -- one source at least, and so many that a byte counts them
   module _ (one : 1 ≤ length es) (few : length es < 256) (w : Blocks m g (blocks t b n)) (r : List ℕ) (flags : ℕ) (z : ListByte flags int) where

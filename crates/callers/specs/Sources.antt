@@ -9,7 +9,7 @@ use lib.ListN.{length, getD}
 use borrow.Author.Tests.{le-ltb, ne-eqb}
 use Rattle.octets.specs.Octets.{Octets}
 use Rattle.folds.specs.declared.Found.the-variants.{Nothing}
-use Rattle.folds.specs.Each.{EachIs, each-at}
+use Rattle.folds.specs.Each.{EachIs, each-at, each-implies}
 use Rattle.folds.specs.Least.{least-none}
 use Rattle.geometry.specs.declared.Geometry.{Geometry}
 use Rattle.geometry.specs.Places.{Range}
@@ -24,7 +24,7 @@ use Rattle.meaning.specs.declared.Span.{Span}
 use Rattle.meaning.specs.declared.Fault.the-variants.{Clear}
 use Rattle.meaning.specs.Sources.{isAt, ownEntry, driveBad, entryBad, orNext, firstBad}
 use Rattle.meaning.specs.Allowed.{NamesOther, Sourced}
-use Rattle.callers.specs.Lists.{source, listOf, list-long, list-source}
+use Rattle.callers.specs.Lists.{source, listOf, entriesOf, Fitting, list-long, list-source, list-entries}
 use Rattle.callers.specs.Does.{summing}
 
 -- ---- entries that pass
@@ -77,12 +77,15 @@ module _ (m : List ℕ) (g : Geometry) (h : Shelf m g) (a : Came) (x : Span) (b 
   names : (i : ℕ) → i < length es → Names m g a x (getD es i (source 0 0))
   names = each-at (Names m g a x) es (source 0 0) each
 
+  fits : (e : Source) → Names m g a x e → Fitting e
+  fits e n = record { address-small = n .small; block-small = omega (arith, n .there .range .range-in, shelf-frame m g h .placed .ranges .b-high) }
+
   -- what the step reads is what was written
-  pub read-as : (i : ℕ) → i < length es → sourceOf (listOf b es d) i ≡ getD es i (source 0 0)
-  read-as i l =
-      let e = names i l in
-      list-source b es d i l
-      (record { address-small = e .small; block-small = omega (arith, e .there .range .range-in, shelf-frame m g h .placed .ranges .b-high) })
+  read-as : (i : ℕ) → i < length es → sourceOf (listOf b es d) i ≡ getD es i (source 0 0)
+  read-as i l = list-source b es d i l (fits (getD es i (source 0 0)) (names i l))
+
+  pub read-all : entriesOf (listOf b es d) ≡ es
+  read-all = list-entries b es d (each-implies (Names m g a x) Fitting fits es each)
 
   -- the sources of a list that was written so
   pub list-sourced : (int : ℕ) → 1 ≤ length es → length d ≡ cond (eqb int 0) 0 (x .count * g .l) → Sourced m g x (summing a int) (listOf b es d)

@@ -50,7 +50,7 @@ both [] rs h k = k
 both (q ∷ qs) rs h k = next (fine q) _ _ (λ e. both qs rs e k) h
 
 -- of the sources
-fault-fine : (f : Fault) → cond (eqb (numberOf (faultAnswer f)) 0) (not (isFault f)) true ≡ true
+pub fault-fine : (f : Fault) → cond (eqb (numberOf (faultAnswer f)) 0) (not (isFault f)) true ≡ true
 fault-fine Clear = refl
 fault-fine (Absent i) = refl
 fault-fine (Failed i k) = refl

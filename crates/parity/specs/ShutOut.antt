@@ -3,7 +3,7 @@ use Prim.Native.Nat.{ℕ, zero, suc, _*_, _<_}
 use native.Mathlib.Omega.{arith}
 use mathlib.Core.Path.{_≡_, refl, sym, ap, _∙_}
 use mathlib.Core.Bool.{cond}
-use mathlib.Core.List.{List, [], _∷_, map, List·Memᴰ·not-nil}
+use mathlib.Core.List.{List, [], _∷_, List·Memᴰ·not-nil}
 use lib.Dec.{lit≤, eqb}
 use lib.ListN.{getD, set, take}
 use Rattle.octets.specs.Part.{part}
@@ -17,10 +17,8 @@ use Rattle.folds.specs.All.{allBelow}
 use Rattle.folds.specs.Same.{sameList}
 use Rattle.folds.specs.Count.{countBelow}
 use Rattle.folds.specs.Least.{leastBelow}
-use Rattle.geometry.specs.declared.Geometry.{Geometry}
-use Rattle.geometry.specs.Header.{geometryOf, framedOk, slotAt, place}
+use Rattle.geometry.specs.Header.{framedOk, slotAt, place}
 use Rattle.drives.specs.declared.Came.{Came}
-use Rattle.geometry.specs.Stores.{stored}
 use Rattle.drives.specs.Table.{driveOf, to, tableOk}
 use Rattle.slots.specs.Record.{slotOf, bytesOf}
 use Rattle.slots.specs.Slots.{slotsOk}
@@ -38,14 +36,13 @@ use Rattle.sense.specs.declared.Answer.{Answer}
 use Rattle.sense.specs.declared.Answer.the-variants.{Good}
 use Rattle.command.specs.Command.{opOf, sixteenOf, tenOf, listedOf, ownOf, resolvedOf, listBytes, sourceOf}
 use Rattle.command.specs.Lossless.{cdbOf}
-use Rattle.meaning.specs.declared.Decision.{Decision}
-use Rattle.meaning.specs.declared.Decision.the-variants.{Stop, Go}
-use Rattle.meaning.specs.Acts.{blocksOf, Over, over, Effect, effect, storesIn, sourcesFrom, gathered, effectOf}
+use Rattle.meaning.specs.Acts.{blocksOf, effect, sourcesFrom, gathered}
 use Rattle.meaning.specs.Sources.{ownEntry, driveBad, entryBad, firstBad}
 use Rattle.meaning.specs.Checks.{decideOf}
 use Rattle.meaning.specs.Step.{decided, stepImage, stepOutcome}
 use Rattle.meaning.specs.Calls.{Call, command}
 use Rattle.meaning.specs.Examples.Cases.{xdwrite, tenWith, ten, room}
+use Rattle.callers.specs.Otherwise.{Otherwise, leftBy, writing}
 use Rattle.parity.specs.Owed.{owed}
 use Rattle.parity.specs.AnyStep.{AnyStep, done, theStep, callBy, Start, SumsDiffer, AllPresent, Whole, Restores}
 use Rattle.parity.specs.Example.{bench-start, bench-zero, present, carried, junk, both-rows}
@@ -115,22 +112,10 @@ idling-not answer h =
 
 -- ---- steps that decide rightly and act wrongly
 
--- another effect in place of an act's, on an image with data-out bytes
-abbrev pub Otherwise : Type 0
-Otherwise = List ℕ → Geometry → List ℕ → Effect → Effect
-
-abbrev leftBy : Otherwise → Decision → List ℕ → List ℕ → List ℕ
-leftBy f (Stop n w x) m s = m
-leftBy f (Go act x) m s = stored m (storesIn m (geometryOf m) (f m (geometryOf m) s (effectOf m (geometryOf m) s act)))
-
 -- of the commands with a code
 abbrev pub acting : ℕ → Otherwise → AnyStep
 acting code f m a c s r =
     cond (eqb (getD c 0 0) code) (done (leftBy f (decided m a c s r) m s) (stepOutcome m a c s r .answer)) (theStep m a c s r)
-
--- other bytes over the blocks that are written
-abbrev pub writing : (Over → List ℕ) → Effect → Effect
-writing f e = effect (e .hands) (map (λ w. over (w .blocks) (f w)) (e .writes)) (e .change)
 
 -- a list but for its element i
 abbrev pub sansAt : ℕ → List (List ℕ) → List (List ℕ)
