@@ -173,10 +173,16 @@ extern "C" {
  *                     wants Sec Ctl 11, and DISABLE WRITE leave the medium as it is.
  *   Sec Ctl           00 or 10; 11 retains the result of C0h for a later XDREAD, and the secondary's fields are then ignored. 50h
  *                     has none and always retains.
- *   list              number of sources, 01h, two zeros, own block (4 bytes); then for each source its address and block (4 each)
+ *   list              number of sources, 01h, two zeros, own block (4 bytes); then for each source its address and block (4 each);
+ *                     the blocks that follow it with Int Data are one more operand. The order of the sources does not matter.
  *   length            at most the blocks of a slot in C0h, C1h, C4h, 50h, 51h and 53h. FFFFFFFFh in a REBUILD goes to the last
  *                     block. With a length of 0, but in an XDREAD of either set, and with a list length of 0 nothing is moved; the
  *                     latter sends nothing either.
+ *
+ * A rebuild may be divided. Into ranges, in any order, each with its sources' blocks moved along. Over two strings of drives: a
+ * REGENERATE to a drive of the first, XDREAD of its result, and a REBUILD from the second with that as Int Data. Where each answer is
+ * SHELF_GOOD and nothing else changes a medium meanwhile, the media are as one REBUILD from all those drives leaves them. So a drive
+ * of any size is rebuilt over two strings, in ranges of at most the blocks of a slot.
  *
  * Stack, as measured on x86-64: REBUILD and REGENERATE at most 6,700 bytes, at any number of sources; every other call less than
  * 1,700.

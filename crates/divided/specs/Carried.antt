@@ -97,7 +97,7 @@ module _ (m : List ℕ) (a : Came) (c s r : List ℕ) where
 -- ---- what was asked was done
 
 -- what is known of each entry that the step reads
-pub each-entry : (P : Source → Type 0) (s : List ℕ) (i left : ℕ) → ((j : ℕ) → j < i + left → P (sourceOf s j)) → EachIs P (entriesFrom s i left)
+each-entry : (P : Source → Type 0) (s : List ℕ) (i left : ℕ) → ((j : ℕ) → j < i + left → P (sourceOf s j)) → EachIs P (entriesFrom s i left)
 unfolding entriesFrom
 each-entry P s i zero h = tt
 each-entry P s i (suc left) h = (h i (omega arith), each-entry P s (i + 1) left (λ j l. h j (omega arith)))
@@ -183,7 +183,6 @@ module _ (m : List ℕ) (g : Geometry) (h : Shelf m g) (x : Sent) (t : ℕ) (fou
   pub record Regenerated : Type 0 where
     pub target-blocks : Blocks m g (blocks t b n)
     pub each : EachIs (NamesOther m g a (blocks t b n)) es
-    pub some-source : 1 ≤ length es
     pub data-long : length d ≡ cond (eqb int 0) 0 (n * g .l)
     pub after : After m (stepImage m a c s (x .room)) g (stateOf m g) [] (resultIn 2 (blocks t b n) (blocksAt m g t b n ⊻ xorAll (operands m g a n es int d)) ∷ results m g)
 
@@ -201,7 +200,6 @@ module _ (m : List ℕ) (g : Geometry) (h : Shelf m g) (x : Sent) (t : ℕ) (fou
         record {
           target-blocks = w .0;
           each = each-asked Regenerate q (w .1);
-          some-source = some-asked Regenerate q (w .1);
           data-long = long-asked Regenerate q (w .1);
           after = subst (λ (ys : List ℕ). After m (stepImage m a c s (x .room)) g (stateOf m g) [] (resultIn 2 (blocks t b n) (blocksAt m g t b n ⊻ ys) ∷ results m g)) (sum-asked Regenerate q (w .1))
               (does m g h a c s (x .room) _ regenerate-went .after);

@@ -34,7 +34,7 @@ use Rattle.divided.specs.Fill.{Stands, filled, fills-under, all-stand, F
 use Rattle.divided.specs.Whole.{whole}
 
 -- a part that is as long as was asked for lies within
-pub part-within : (xs : List ℕ) (at n : ℕ) → 1 ≤ n → length (part xs at n) ≡ n → at + n ≤ length xs
+part-within : (xs : List ℕ) (at n : ℕ) → 1 ≤ n → length (part xs at n) ≡ n → at + n ≤ length xs
 unfolding part
 part-within xs at n some e = omega (arith, length-take n (drop at xs), length-drop at xs)
 

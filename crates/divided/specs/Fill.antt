@@ -36,7 +36,7 @@ module _ (at : ℕ) (xs : List ℕ) where
         ∙ ap (λ (i : ℕ). getD xs i 0) f
 
     -- and so does what stood
-    pub fills-more : (j : ℕ) → Stands y j → Stands (filled y a k) j
+    fills-more : (j : ℕ) → Stands y j → Stands (filled y a k) j
     fills-more j h =
         ⊎-elim (λ l. getD-put-before y (at + a) (part xs a k) (at + j) (omega arith) ∙ h)
         (λ l. ⊎-elim (λ u. fills j l u) (λ u. getD-put-after y (at + a) (part xs a k) (at + j) (omega (arith, length-part xs a k inside)) ∙ h) (order j (a + k)))

@@ -61,11 +61,11 @@ module _ (m m′ : List ℕ) (g : Geometry) (w : SameMedia m m′ g) where
       in-medium m g v b n r ∙ ap (λ (y : List ℕ). part y (b * g .l) (n * g .l)) (w .media v (r .drive-in)) ∙ sym (in-medium m′ g v b n r)
 
   -- what an address names, however the command came
-  pub same-drive : (a a′ : Came) (x : ℕ) → sourceDrive m g a x ≡ sourceDrive m′ g a′ x
+  same-drive : (a a′ : Came) (x : ℕ) → sourceDrive m g a x ≡ sourceDrive m′ g a′ x
   same-drive a a′ x = drive-ext m m′ g (w .addresses) x
 
   module _ (a a′ : Came) (x : Span) where
-    pub same-named : (e : Source) → NamesOther m g a x e → namedBlocks m g a (x .count) e ≡ namedBlocks m′ g a′ (x .count) e
+    same-named : (e : Source) → NamesOther m g a x e → namedBlocks m g a (x .count) e ≡ namedBlocks m′ g a′ (x .count) e
     same-named e o =
         same-blocks (homeOf m g a e) (e .block .0) (x .count) (home-range m g a x e o)
         ∙ ap (λ (f : Found). blocksAt m′ g (index f) (e .block .0) (x .count)) (same-drive a a′ (e .address .0))

@@ -170,7 +170,7 @@ module _ (m : List ℕ) (a : Came) (c s s′ : List ℕ) (w : Reordered s s′) 
   t = index (targetOf m g a)
 
   number : getD s 0 0 ≡ getD s′ 0 0
-  number = front-byte s s′ 8 (w .head) 0 (lit≤ tt)
+  number = front-byte s s′ _ (w .head) 0 (lit≤ tt)
 
   -- one of two numbers that are the same in both
   by : {A : Type 0} (f : A → Check) {x y : A} → x ≡ y → Alike (f x) (f y)
@@ -179,7 +179,7 @@ module _ (m : List ℕ) (a : Came) (c s s′ : List ℕ) (w : Reordered s s′) 
   module _ (k : Command) where
     same-place : resolved g k s ≡ resolved g k s′
     unfolding ownOf
-    same-place = let e = front-be s s′ 8 (w .head) 4 4 (lit≤ tt) in rw e
+    same-place = let e = front-be s s′ _ (w .head) 4 4 (lit≤ tt) in rw e
 
     own-alike : (x y : Seen) → Alike (rule 7 x (not (isNothing (ownEntry m g (k .came) s (getD s 0 0) t))) BadList) (rule 7 y (not (isNothing (ownEntry m g (k .came) s′ (getD s′ 0 0) t))) BadList)
     own-alike x y =
@@ -194,8 +194,8 @@ module _ (m : List ℕ) (a : Came) (c s s′ : List ℕ) (w : Reordered s s′) 
         inl refl
         then by (λ (n : ℕ). rule 7 (Cdb 7) (not (eqb (k .list) (8 + 8 * n))) BadListLength) number
         then by (λ (n : ℕ). rule 7 (InList 0) (eqb n 0) BadList) number
-        then by (λ (n : ℕ). rule 7 (InList 1) (not (eqb n 1)) BadList) (front-byte s s′ 8 (w .head) 1 (lit≤ tt))
-        then by (λ (n : ℕ). rule 7 (InList 2) (not (eqb n 0)) BadList) (front-be s s′ 8 (w .head) 2 2 (lit≤ tt))
+        then by (λ (n : ℕ). rule 7 (InList 1) (not (eqb n 1)) BadList) (front-byte s s′ _ (w .head) 1 (lit≤ tt))
+        then by (λ (n : ℕ). rule 7 (InList 2) (not (eqb n 0)) BadList) (front-be s s′ _ (w .head) 2 2 (lit≤ tt))
         then own-alike _ _
         then inl refl
         then tt

@@ -200,7 +200,7 @@ module _ (g : Geometry) (m : List ℕ) (t u b c n : ℕ) (es fs zs : List Source
     target-same : mediumOf e g u ≡ mediumOf (ours m x .image) g u
     target-same = sym (ended .same .media u inside) ∙ target-is ∙ sym (ap see (did .image) ∙ medium-put m g u c sum)
 
-    pub media-same : (v : ℕ) → v < g .d → mediumOf e g v ≡ mediumOf (ours m x .image) g v
+    media-same : (v : ℕ) → v < g .d → mediumOf e g v ≡ mediumOf (ours m x .image) g v
     media-same v l =
         ⊎-elim (λ q. ap (mediumOf e g) q ∙ target-same ∙ ap (mediumOf (ours m x .image) g) (sym q))
         (λ ne. sym (ended .same .media v l)

@@ -118,7 +118,7 @@ module _ (g : Geometry) (m m′ m″ : List ℕ) (x y z : Sent) (t u b c n : ℕ
         let f = drive-found m″ g (v .shelf .table-ok) t (r .drive-in) in
         record { drive = t; found = f; range = r; present = k t f .0; other = k t f .1 }
 
-    pub all-named : EachIs (Ready m″ g a u) (sourceAt m″ g b t ∷ es) → EachIs Named zs
+    all-named : EachIs (Ready m″ g a u) (sourceAt m″ g b t ∷ es) → EachIs Named zs
     all-named k =
         perm-each Named all (
           own-is (k .0),
