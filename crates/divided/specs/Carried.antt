@@ -26,9 +26,10 @@ use Rattle.geometry.specs.Places.{data-in}
 use Rattle.drives.specs.declared.Came.{Came}
 use Rattle.drives.specs.Table.{stateOf, targetOf}
 use Rattle.slots.specs.Find.{emptySlot, newestOf}
+use Rattle.slots.specs.Change.{released}
 use Rattle.results.specs.First.{firstOf, sansFirst}
 use Rattle.results.specs.Newest.{answers, newest-result}
-use Rattle.results.specs.Results.{Result, results, resultAt}
+use Rattle.results.specs.Results.{Result, results, resultAt, withResult, Sound}
 use Rattle.image.specs.Shelf.{Shelf, shelf-frame}
 use Rattle.sense.specs.declared.Answer.{Answer}
 use Rattle.sense.specs.declared.Answer.the-variants.{Good}
@@ -47,7 +48,8 @@ use Rattle.meaning.specs.Checks.{Check, checks, carriedOut, acts, decideOf}
 use Rattle.meaning.specs.Step.{decided, outcomeAfter, stepOutcome, stepImage, stepRoom}
 use Rattle.grants.specs.Good.{fault-fine}
 use Rattle.grants.specs.Granted.{allowed-at}
-use Rattle.demands_one_two.specs.Effects.{resultIn}
+use Rattle.demands_one_two.specs.Effects.{resultIn, in-form}
+use Rattle.demands_one_two.specs.Fine.{fine}
 use Rattle.callers.specs.After.{After}
 use Rattle.callers.specs.Does.{summing, blocks}
 use Rattle.callers.specs.Goes.{exactly, does}
@@ -179,12 +181,18 @@ module _ (m : List ℕ) (g : Geometry) (h : Shelf m g) (x : Sent) (t : ℕ) (fou
               (does m g h a c s (x .room) _ rebuild-went .after);
         }
 
-  -- a REGENERATE that was
+  -- a REGENERATE that was, and its result
+  abbrev result : Result
+  result = resultIn 2 (blocks t b n) (blocksAt m g t b n ⊻ xorAll (operands m g a n es int d))
+
   pub record Regenerated : Type 0 where
     pub target-blocks : Blocks m g (blocks t b n)
     pub each : EachIs (NamesOther m g a (blocks t b n)) es
     pub data-long : length d ≡ cond (eqb int 0) 0 (n * g .l)
-    pub after : After m (stepImage m a c s (x .room)) g (stateOf m g) [] (resultIn 2 (blocks t b n) (blocksAt m g t b n ⊻ xorAll (operands m g a n es int d)) ∷ results m g)
+    pub free : emptySlot m g ≡ At (index (emptySlot m g))
+    pub sound : Sound g result
+    pub image : stepImage m a c s (x .room) ≡ withResult m g result
+    pub after : After m (stepImage m a c s (x .room)) g (stateOf m g) [] (result ∷ results m g)
 
   module _ (q : Asks Regenerate (g .b) x b n es int d) (good : IsGood ours m x) where
     regenerate-went : decided m a c s (x .room) ≡ Go (ToRegenerate (blocks t b n) (summing a int) (index (emptySlot m g))) Good
@@ -197,11 +205,18 @@ module _ (m : List ℕ) (g : Geometry) (h : Shelf m g) (x : Sent) (t : ℕ) (fou
     pub regenerated : Regenerated
     regenerated =
         let w = allowed-at m g h a c s (length (x .room)) _ Good regenerate-went in
+        let f = fine m g (shelf-frame m g h) s (length (x .room)) (ToRegenerate (blocks t b n) (summing a int) (index (emptySlot m g))) w in
+        let with : List ℕ → Result = (λ ys. resultIn 2 (blocks t b n) (blocksAt m g t b n ⊻ ys)) in
         record {
           target-blocks = w .0;
           each = each-asked Regenerate q (w .1);
           data-long = long-asked Regenerate q (w .1);
-          after = subst (λ (ys : List ℕ). After m (stepImage m a c s (x .room)) g (stateOf m g) [] (resultIn 2 (blocks t b n) (blocksAt m g t b n ⊻ ys) ∷ results m g)) (sum-asked Regenerate q (w .1))
+          free = f .possible .0;
+          sound = subst (λ (ys : List ℕ). Sound g (with ys)) (sum-asked Regenerate q (w .1)) (f .possible .1);
+          image = sym (exactly m g h a c s (x .room) _ regenerate-went .image)
+              ∙ in-form g (shelf-frame m g h .placed) m (length (x .room)) _ f
+              ∙ ap (λ (ys : List ℕ). withResult m g (with ys)) (sum-asked Regenerate q (w .1));
+          after = subst (λ (ys : List ℕ). After m (stepImage m a c s (x .room)) g (stateOf m g) [] (with ys ∷ results m g)) (sum-asked Regenerate q (w .1))
               (does m g h a c s (x .room) _ regenerate-went .after);
         }
 
@@ -239,6 +254,10 @@ module _ (m : List ℕ) (g : Geometry) (h : Shelf m g) (x : Sent) (t : ℕ) (fou
       ∙ part-put (x .room) 0 handed (omega (arith, length-part-le m (dataAt g slot) (be 2 (x .cdb) 7 * g .l), w .1))
       ∙ ap (λ (k : ℕ). part m (dataAt g slot) (k * g .l)) (sym (w .0 .same-len))
       ∙ ap (λ (y : Result). y .bytes) its
+
+  pub xdread-image : stepImage m (x .came) (x .cdb) (x .bytes) (x .room) ≡ released m g slot
+  unfolding released
+  xdread-image = sym (exactly m g h (x .came) (x .cdb) (x .bytes) (x .room) _ xdread-went .image)
 
   -- and it alone is no longer retained
   pub xdread-after : After m (stepImage m (x .came) (x .cdb) (x .bytes) (x .room)) g (stateOf m g) [] (sansFirst (answers t block) (results m g))

@@ -3,27 +3,35 @@ use Prim.Native.Nat.{ℕ, _*_, _≤_, _<_}
 use native.Mathlib.Omega.{arith}
 use mathlib.Core.Bool.{true, cond}
 use lib.Dec.{eqb}
+use lib.ListN.{length}
 use mathlib.Core.Logic.{inl, ⊎-elim}
 use mathlib.Core.Path.{_≡_, refl, sym, ap, ap₂, _∙_}
 use mathlib.Core.List.{List, [], _∷_, _++_, List·Permᴰ}
 use borrow.Author.Tests.{eq-eqb}
 use Rattle.octets.specs.Part.{part}
 use Rattle.octets.specs.Put.{put}
-use Rattle.octets.specs.PutPut.{part-put-below}
+use Rattle.octets.specs.PutPut.{part-put-below, put-comm}
 use Rattle.octets.specs.Number.{be}
+use Rattle.octets.specs.Octets.{Octets}
 use Rattle.octets.specs.Xor.{_⊻_}
 use Rattle.octets.specs.Operands.{xorAll}
+use Rattle.folds.specs.declared.Found.{Found}
 use Rattle.folds.specs.declared.Found.the-variants.{At}
+use Rattle.folds.specs.Least.{index}
 use Rattle.folds.specs.Cases.{same}
 use Rattle.folds.specs.Every.{every-of}
 use Rattle.geometry.specs.declared.Geometry.{Geometry}
-use Rattle.geometry.specs.Header.{place, blocksAt}
-use Rattle.geometry.specs.Places.{place-after-media}
+use Rattle.geometry.specs.Header.{dataAt, place, blocksAt}
+use Rattle.geometry.specs.Places.{place-after-media, slot-before-media, data-ends}
 use Rattle.drives.specs.Table.{stateOf, targetOf}
+use Rattle.slots.specs.Find.{emptySlot, newestOf}
+use Rattle.slots.specs.Facts.{empty-inside}
+use Rattle.slots.specs.Change.{released}
 use Rattle.results.specs.First.{sansFirst, sans-hit}
 use Rattle.results.specs.Newest.{answers}
-use Rattle.results.specs.Results.{Result, results}
-use Rattle.image.specs.Shelf.{Shelf}
+use Rattle.results.specs.Results.{Result, results, withResult}
+use Rattle.results.specs.Passing.{passing, newest-new}
+use Rattle.image.specs.Shelf.{Shelf, shelf-frame}
 use Rattle.command.specs.declared.Op.the-variants.{Rebuild}
 use Rattle.command.specs.declared.Source.{Source}
 use Rattle.demands_one_two.specs.Effects.{resultIn}
@@ -32,9 +40,9 @@ use Rattle.callers.specs.Does.{blocks}
 use Rattle.callers.specs.Operands.{operands}
 use Rattle.divided.specs.InParts.{Sent, ours, IsGood, Asks, First, Fetched, Second, mediumOf, SameMedia, together}
 use Rattle.divided.specs.Between.{after-media}
-use Rattle.divided.specs.Carried.{Regenerated, regenerated, Rebuilt, rebuilt, xdread-after}
+use Rattle.divided.specs.Carried.{Regenerated, Rebuilt, rebuilt, xdread-image, xdread-after}
 use Rattle.divided.specs.Media.{each-named, medium-put, then-same}
-use Rattle.divided.specs.Strings.{second-done, sum-is}
+use Rattle.divided.specs.Strings.{first-done, fetched, second-done, sum-is}
 
 -- a REBUILD that was answered GOOD leaves header, drive table and slots as they were
 module _ (m : List ℕ) (g : Geometry) (h : Shelf m g) (x : Sent) (u : ℕ) (found : targetOf m g (x .came) ≡ At u) (b n : ℕ) (some : 1 ≤ n) (es : List Source) (int : ℕ) (d : List ℕ)
@@ -59,7 +67,7 @@ module _ (g : Geometry) (m m′ m″ : List ℕ) (x y z : Sent) (t u b c n : ℕ
     once : Rebuilt k g h o u found c n (p .some-block) zs int d
     once = rebuilt k g h o u found c n (p .some-block) zs int d asks good
 
-    wrote : ours k o .image ≡ put k (place g u c) bytes
+    pub wrote : ours k o .image ≡ put k (place g u c) bytes
     wrote =
         once .image
         ∙ ap (put k (place g u c))
@@ -94,7 +102,7 @@ module _ (g : Geometry) (m : List ℕ) (x y : Sent) (t b n : ℕ) (es : List Sou
 
   module _ (p : First ours m g x t b n es int d) (q : Fetched ours kept kept g y t b n ys) where
     did-first : Regenerated m g (p .shelf) x t (p .found) b n (p .some-block) es int d
-    did-first = regenerated m g (p .shelf) x t (p .found) b n (p .some-block) es int d (p .asks) (p .good)
+    did-first = first-done g m kept x y t b n es int d ys p q
 
     did-fetch : After kept read g (stateOf kept g) [] (sansFirst (answers t (be 4 (y .cdb) 2)) (results kept g))
     did-fetch = xdread-after kept g (q .shelf) y t (q .found) (q .code) (q .good)
@@ -102,6 +110,19 @@ module _ (g : Geometry) (m : List ℕ) (x y : Sent) (t b n : ℕ) (es : List Sou
     -- the media are as before
     pub media-as-before : SameMedia m read g
     media-as-before = then-same m kept read g (after-media m kept g (stateOf m g) _ (did-first .after)) (after-media kept read g (stateOf kept g) _ did-fetch)
+
+    -- the result came and went, and all that is left is its bytes, in the data of the slot that it had
+    pub read-is : Octets m → read ≡ put m (dataAt g (index (emptySlot m g))) ys
+    read-is bytes =
+        let k = index (emptySlot m g) in
+        let r = resultIn 2 (blocks t b n) (blocksAt m g t b n ⊻ xorAll (operands m g (x .came) n es int d)) in
+        let f = shelf-frame m g (p .shelf) in
+        let i = newest-new m g f (p .shelf .slots-ok) k (did-first .free) r (did-first .sound) in
+        xdread-image kept g (q .shelf) y t (q .found) (q .code) (q .good)
+        ∙ ap₂ (λ (s : List ℕ) (j : ℕ). released s g (index (newestOf s g t j))) (did-first .image) (q .block)
+        ∙ ap (λ (o : Found). released (withResult m g r) g (index o)) i
+        ∙ passing m g f (p .shelf .slots-ok) k (did-first .free) r (did-first .sound) bytes
+        ∙ ap (put m (dataAt g k)) (sym (fetched g m kept x y t b n es int d ys p q))
 
     -- the result came and went: the results by age are as before
     results-read : results read g ≡ results m g
@@ -122,3 +143,19 @@ module _ (g : Geometry) (m : List ℕ) (x y : Sent) (t b n : ℕ) (es : List Sou
 
       pub states-as-before : (i : ℕ) → i < g .d → stateOf (ours read z .image) g i ≡ stateOf m g i
       states-as-before i l = did-second .after .state-is i l ∙ did-fetch .state-is i l ∙ did-first .after .state-is i l
+
+      -- the one REBUILD o on the first image leaves the same bytes, but for those in that slot
+      pub but-for-a-slot : Octets m → (o : Sent) → targetOf m g (o .came) ≡ At u → (zs : List Source) → List·Permᴰ zs (together read g t b es fs) → Asks Rebuild (g .b) o c n zs int d → IsGood ours m o
+          → ours read z .image ≡ put (ours m o .image) (dataAt g (index (emptySlot m g))) ys
+      but-for-a-slot bytes o found zs all asks good =
+          let i = index (emptySlot m g) in
+          let sum = xorAll (operands read g (z .came) n fs 1 ys) in
+          let f = shelf-frame m g (p .shelf) in
+          let l = empty-inside m g i (did-first .free) .0 in
+          let long : length ys ≡ n * g .l = ap length (fetched g m kept x y t b n es int d ys p q) ∙ did-first .sound .exact in
+          let one = wrote g m kept read x y z t u b c n es fs int d ys p q v media-as-before m media-as-before (p .shelf) o found zs all asks good in
+          did-second .image
+          ∙ ap (λ (s : List ℕ). put s (place g u c) sum) (read-is bytes)
+          ∙ put-comm m (dataAt g i) ys (place g u c) sum
+          (omega (arith, place-after-media g u c, slot-before-media g i (f .placed) l, data-ends g i n (did-first .sound .fits .len-high)))
+          ∙ ap (λ (s : List ℕ). put s (dataAt g i) ys) (sym one)

@@ -48,7 +48,7 @@ module _ (g : Geometry) (m m′ m″ : List ℕ) (x y z : Sent) (t u b c n : ℕ
 
   all-fit : EachIs Fitting zs
   all-fit =
-      let did = first-done g m m′ m″ x y z t u b c n es fs int d ys p q v w in
+      let did = first-done g m m′ x y t b n es int d ys p q in
       let own = did .target-blocks .range in
       perm-each Fitting all (
         fits (sourceAt m″ g b t) t (own .drive-in) refl (own .range-in),

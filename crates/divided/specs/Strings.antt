@@ -38,21 +38,18 @@ in-turn : (t e f r : List ℕ) → (t ⊻ (e ⊻ f)) ⊻ r ≡ f ⊻ (t ⊻ (e �
 in-turn t e f r =
     ap (λ (k : List ℕ). k ⊻ r) (sym (xor-regroups t e f)) ∙ xor-swaps (t ⊻ e) f r ∙ xor-commutes ((t ⊻ e) ⊻ r) f ∙ ap (_⊻_ f) (xor-regroups t e r)
 
-module _ (g : Geometry) (m m′ m″ : List ℕ) (x y z : Sent) (t u b c n : ℕ) (es fs : List Source) (int : ℕ) (d ys : List ℕ)
-    (p : First ours m g x t b n es int d) (q : Fetched ours (ours m x .image) m′ g y t b n ys) (v : Second ours m″ g z u c n fs ys) (w : SameMedia m m″ g) where
-  -- ---- what the three have done
+-- ---- the first string
 
+module _ (g : Geometry) (m m′ : List ℕ) (x y : Sent) (t b n : ℕ) (es : List Source) (int : ℕ) (d ys : List ℕ)
+    (p : First ours m g x t b n es int d) (q : Fetched ours (ours m x .image) m′ g y t b n ys) where
   pub first-done : Regenerated m g (p .shelf) x t (p .found) b n (p .some-block) es int d
   first-done = regenerated m g (p .shelf) x t (p .found) b n (p .some-block) es int d (p .asks) (p .good)
 
-  pub second-done : Rebuilt m″ g (v .shelf) z u (v .found) c n (p .some-block) fs 1 ys
-  second-done = rebuilt m″ g (v .shelf) z u (v .found) c n (p .some-block) fs 1 ys (v .asks) (v .good)
-
-  -- the result that REGENERATE retained
+  -- the bytes passed on are the result that REGENERATE retained
   abbrev its : List ℕ
   its = blocksAt m g t b n ⊻ xorAll (operands m g (x .came) n es int d)
 
-  fetched : ys ≡ its
+  pub fetched : ys ≡ its
   fetched =
       let k = resultIn 2 (blocks t b n) its in
       let asked : answers t b k ≡ true = every-of _ (eq-eqb t t refl, (eq-eqb b b refl, tt)) in
@@ -60,6 +57,19 @@ module _ (g : Geometry) (m m′ m″ : List ℕ) (x y z : Sent) (t u b c n : ℕ
       q .newest ∙ ap (firstOf (answers t b)) (first-done .after .retained) ∙ first-hit (answers t b) k (results m g) asked in
       q .bytes
       ∙ xdread-handed m′ g (q .shelf) y t (q .found) (q .code) (q .good) k (ap (λ (i : ℕ). firstOf (answers t i) (results m′ g)) (q .block) ∙ newest)
+
+-- ---- and the second
+
+module _ (g : Geometry) (m m′ m″ : List ℕ) (x y z : Sent) (t u b c n : ℕ) (es fs : List Source) (int : ℕ) (d ys : List ℕ)
+    (p : First ours m g x t b n es int d) (q : Fetched ours (ours m x .image) m′ g y t b n ys) (v : Second ours m″ g z u c n fs ys) (w : SameMedia m m″ g) where
+  did-first : Regenerated m g (p .shelf) x t (p .found) b n (p .some-block) es int d
+  did-first = first-done g m m′ x y t b n es int d ys p q
+
+  pub second-done : Rebuilt m″ g (v .shelf) z u (v .found) c n (p .some-block) fs 1 ys
+  second-done = rebuilt m″ g (v .shelf) z u (v .found) c n (p .some-block) fs 1 ys (v .asks) (v .good)
+
+  abbrev passed : List ℕ
+  passed = its g m m′ x y t b n es int d ys p q
 
   -- ---- their XOR is that of all of them
 
@@ -73,13 +83,13 @@ module _ (g : Geometry) (m m′ m″ : List ℕ) (x y z : Sent) (t u b c n : ℕ
     -- the first string's own target, as a source
     own-named : named (sourceAt m″ g b t) ≡ blocksAt m g t b n
     own-named =
-        ap (λ (f : Found). blocksAt m″ g (index f) b n) (drive-found m″ g (v .shelf .table-ok) t (first-done .target-blocks .range .drive-in))
-        ∙ sym (same-blocks m m″ g w t b n (first-done .target-blocks .range))
+        ap (λ (f : Found). blocksAt m″ g (index f) b n) (drive-found m″ g (v .shelf .table-ok) t (did-first .target-blocks .range .drive-in))
+        ∙ sym (same-blocks m m″ g w t b n (did-first .target-blocks .range))
 
-    its-is : its ≡ named (sourceAt m″ g b t) ⊻ (xorAll (map named es) ⊻ xorAll rest)
-    its-is =
+    passed-is : passed ≡ named (sourceAt m″ g b t) ⊻ (xorAll (map named es) ⊻ xorAll rest)
+    passed-is =
         ap₂ _⊻_ (sym own-named)
-        (ap (λ (xs : List (List ℕ)). xorAll (xs ++ rest)) (each-named m m″ g w (x .came) a (blocks t b n) es (first-done .each)) ∙ xorAll-append (map named es) rest)
+        (ap (λ (xs : List (List ℕ)). xorAll (xs ++ rest)) (each-named m m″ g w (x .came) a (blocks t b n) es (did-first .each)) ∙ xorAll-append (map named es) rest)
 
     all-is : xorAll (operands m″ g a n zs int d) ≡ (named (sourceAt m″ g b t) ⊻ (xorAll (map named es) ⊻ xorAll (map named fs))) ⊻ xorAll rest
     unfolding xorAll
@@ -90,17 +100,17 @@ module _ (g : Geometry) (m m′ m″ : List ℕ) (x y z : Sent) (t u b c n : ℕ
         ∙ ap (λ (xs : List (List ℕ)). named (sourceAt m″ g b t) ⊻ xorAll xs) (map-append named es fs)
         ∙ ap (_⊻_ (named (sourceAt m″ g b t))) (xorAll-append (map named es) (map named fs)))
 
-    second-is : xorAll (operands m″ g (z .came) n fs 1 ys) ≡ xorAll (map named fs) ⊻ its
+    second-is : xorAll (operands m″ g (z .came) n fs 1 ys) ≡ xorAll (map named fs) ⊻ passed
     second-is =
-        ap₂ (λ (xs : List (List ℕ)) (k : List ℕ). xorAll (xs ++ k ∷ [])) (each-named m″ m″ g (same-itself m″ g) (z .came) a (blocks u c n) fs (second-done .each)) fetched
-        ∙ xorAll-append (map named fs) (its ∷ [])
-        ∙ ap (_⊻_ (xorAll (map named fs))) (xorAll-one its)
+        ap₂ (λ (xs : List (List ℕ)) (k : List ℕ). xorAll (xs ++ k ∷ [])) (each-named m″ m″ g (same-itself m″ g) (z .came) a (blocks u c n) fs (second-done .each)) (fetched g m m′ x y t b n es int d ys p q)
+        ∙ xorAll-append (map named fs) (passed ∷ [])
+        ∙ ap (_⊻_ (xorAll (map named fs))) (xorAll-one passed)
 
     pub sum-is : xorAll (operands m″ g a n zs int d) ≡ xorAll (operands m″ g (z .came) n fs 1 ys)
     sum-is =
         all-is
         ∙ in-turn (named (sourceAt m″ g b t)) (xorAll (map named es)) (xorAll (map named fs)) (xorAll rest)
-        ∙ ap (_⊻_ (xorAll (map named fs))) (sym its-is)
+        ∙ ap (_⊻_ (xorAll (map named fs))) (sym passed-is)
         ∙ sym second-is
 
     -- ---- the one REBUILD
@@ -114,7 +124,7 @@ module _ (g : Geometry) (m m′ m″ : List ℕ) (x y z : Sent) (t u b c n : ℕ
 
     own-is : Ready m″ g a u (sourceAt m″ g b t) → Named (sourceAt m″ g b t)
     own-is k =
-        let r = first-done .target-blocks .range in
+        let r = did-first .target-blocks .range in
         let f = drive-found m″ g (v .shelf .table-ok) t (r .drive-in) in
         record { drive = t; found = f; range = r; present = k t f .0; other = k t f .1 }
 
@@ -122,7 +132,7 @@ module _ (g : Geometry) (m m′ m″ : List ℕ) (x y z : Sent) (t u b c n : ℕ
     all-named k =
         perm-each Named all (
           own-is (k .0),
-          each-append Named es fs (first-named es (first-done .each) (k .1))
+          each-append Named es fs (first-named es (did-first .each) (k .1))
               (each-implies (NamesOther m″ g (z .came) (blocks u c n)) Named (λ e o. names-anyhow m″ g (z .came) a (blocks u c n) e o) fs (second-done .each)),
         )
 
@@ -130,7 +140,7 @@ module _ (g : Geometry) (m m′ m″ : List ℕ) (x y z : Sent) (t u b c n : ℕ
         → ours m″ (rebuilding a flags count c zs d r) ≡ leaving (ours m″ z .image) (rebuilding a flags count c zs d r)
     in-one flags count r said k =
         let one : 1 ≤ length zs = omega (arith, perm-length all) in
-        whole m″ g (v .shelf) (v .bytes) a u flags int count c n zs d said (second-done .target-blocks) (all-named k) one (first-done .data-long) r _ sum-is
+        whole m″ g (v .shelf) (v .bytes) a u flags int count c n zs d said (second-done .target-blocks) (all-named k) one (did-first .data-long) r _ sum-is
         ∙ ap (λ (i : List ℕ). leaving i (rebuilding a flags count c zs d r)) (sym (second-done .image))
 
 pub joins : Joins ours

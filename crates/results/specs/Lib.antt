@@ -15,3 +15,4 @@ pub mod Kept
 pub mod Best
 pub mod Newest
 pub mod Full
+pub mod Passing

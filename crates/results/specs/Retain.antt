@@ -34,10 +34,10 @@ use Rattle.results.specs.Results.{Result, slotResult, resultAt, byAge, r
 abbrev newRecord : List ℕ → Geometry → Result → Slot
 newRecord s g r = recordAt (usedCount s g + 1) r
 
-abbrev filled : List ℕ → Geometry → ℕ → Result → List ℕ
+abbrev pub filled : List ℕ → Geometry → ℕ → Result → List ℕ
 filled s g x r = put s (slotAt g x) (bytesOf (newRecord s g r) ++ r .bytes)
 
-retain-is : (s : List ℕ) (g : Geometry) (x : ℕ) (r : Result) → emptySlot s g ≡ At x → withResult s g r ≡ filled s g x r
+pub retain-is : (s : List ℕ) (g : Geometry) (x : ℕ) (r : Result) → emptySlot s g ≡ At x → withResult s g r ≡ filled s g x r
 unfolding retained
 retain-is s g x r e = ap (λ (t : Found). entered t s g (newRecord s g r) (r .bytes)) e
 
@@ -73,7 +73,7 @@ module _ (s : List ℕ) (g : Geometry) (f : Framed s g) (ok : slotsOk s g ≡ tr
         last-small = omega arith;
       }
 
-  filled-x : slotOf (filled s g x r) g x ≡ newRecord s g r
+  pub filled-x : slotOf (filled s g x r) g x ≡ newRecord s g r
   filled-x = slot-put s g x (omega (arith, room)) (newRecord s g r) (r .bytes) (omega (arith, room)) small
 
   filled-other : (j : ℕ) → (j ≡ x → ⊥) → slotOf (filled s g x r) g j ≡ slotOf s g j
@@ -88,7 +88,7 @@ module _ (s : List ℕ) (g : Geometry) (f : Framed s g) (ok : slotsOk s g ≡ tr
         rank-high = omega arith;
       }
 
-  gained : Gained g (slotOf s g) (slotOf (filled s g x r) g) x
+  pub gained : Gained g (slotOf s g) (slotOf (filled s g x r) g) x
   gained =
       record {
         inside = inside;

@@ -170,7 +170,7 @@ impl RandomShelf {
 
     /// Drops all results where no slot is free.
     pub fn free_a_slot(&mut self) {
-        if self.results(&self.rig.image).len() as u32 == self.slots {
+        if self.retained() == self.slots {
             for address in &self.addresses {
                 self.rig.reset(*address);
             }
@@ -254,19 +254,17 @@ impl RandomShelf {
         &image[self.media_at()..]
     }
 
-    /// The results that an image of this shelf retains, oldest first: each record and its bytes.
-    pub fn results(&self, image: &[u8]) -> Vec<Vec<u8>> {
-        let slots = (0..self.slots).map(|slot| &image[self.slot(slot)]);
-        let mut results: Vec<Vec<u8>> = slots
-            .filter(|slot| slot[4] > 0)
-            .map(|slot| {
-                let blocks = usize::from(u16::from_be_bytes([slot[6], slot[7]]));
-                slot[..16 + blocks * self.size as usize].to_vec()
-            })
-            .collect();
-        // The rank comes first in a record.
-        results.sort_unstable();
-        results
+    /// How many results the shelf retains.
+    pub fn retained(&self) -> u32 {
+        let kinds = (0..self.slots).map(|slot| self.rig.image[self.slot(slot).start + 4]);
+        kinds.filter(|kind| *kind > 0).count() as u32
+    }
+
+    /// Where the data of the lowest empty slot begins.
+    pub fn empty_data(&self, image: &[u8]) -> usize {
+        let mut slots = (0..self.slots).map(|slot| self.slot(slot));
+        let empty = slots.find(|slot| image[slot.start + 4] == 0);
+        empty.expect("an empty slot").start + 16
     }
 
     /// Where a slot stands in the image.
