@@ -67,7 +67,7 @@ module _ (g : Geometry) (m m′ m″ : List ℕ) (x y z : Sent) (t u b c n : ℕ
     once : Rebuilt k g h o u found c n (p .some-block) zs int d
     once = rebuilt k g h o u found c n (p .some-block) zs int d asks good
 
-    pub wrote : ours k o .image ≡ put k (place g u c) bytes
+    wrote : ours k o .image ≡ put k (place g u c) bytes
     wrote =
         once .image
         ∙ ap (put k (place g u c))
@@ -124,7 +124,7 @@ module _ (g : Geometry) (m : List ℕ) (x y : Sent) (t b n : ℕ) (es : List Sou
         ∙ passing m g f (p .shelf .slots-ok) k (did-first .free) r (did-first .sound) bytes
         ∙ ap (put m (dataAt g k)) (sym (fetched g m kept x y t b n es int d ys p q))
 
-    -- the result came and went: the results by age are as before
+    -- so the results by age are as before
     results-read : results read g ≡ results m g
     results-read =
         let k = resultIn 2 (blocks t b n) (blocksAt m g t b n ⊻ xorAll (operands m g (x .came) n es int d)) in
@@ -133,7 +133,7 @@ module _ (g : Geometry) (m : List ℕ) (x y : Sent) (t b n : ℕ) (es : List Sou
         ∙ ap₂ (λ (i : ℕ) (rs : List Result). sansFirst (answers t i) rs) (q .block) (did-first .after .retained)
         ∙ sans-hit (answers t b) k (results m g) asked
 
-    -- and so they are after the second string's REBUILD, and so are the states
+    -- after the second string's REBUILD too, and so are the states
     module _ (z : Sent) (u c : ℕ) (fs : List Source) (v : Second ours read g z u c n fs ys) where
       did-second : Rebuilt read g (v .shelf) z u (v .found) c n (p .some-block) fs 1 ys
       did-second = rebuilt read g (v .shelf) z u (v .found) c n (p .some-block) fs 1 ys (v .asks) (v .good)
