@@ -50,6 +50,17 @@ entriesOf s = entriesFrom s 0 (getD s 0 0)
 abbrev pub behind : List ℕ → List ℕ
 behind s = drop (8 + 8 * getD s 0 0) s
 
+pub entries-long : (s : List ℕ) (i left : ℕ) → length (entriesFrom s i left) ≡ left
+unfolding entriesFrom
+entries-long s i zero = refl
+entries-long s i (suc left) = ap suc (entries-long s (i + 1) left)
+
+-- what is known of each entry that is read
+pub each-entry : (P : Source → Type 0) (s : List ℕ) (i left : ℕ) → ((j : ℕ) → j < i + left → P (sourceOf s j)) → EachIs P (entriesFrom s i left)
+unfolding entriesFrom
+each-entry P s i zero h = tt
+each-entry P s i (suc left) h = (h i (omega arith), each-entry P s (i + 1) left (λ j l. h j (omega arith)))
+
 -- the bytes s start with the head of a list of n sources with this own block
 pub record Headed (s : List ℕ) (n block : ℕ) : Type 0 where
   pub number : getD s 0 0 ≡ n

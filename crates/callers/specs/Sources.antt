@@ -16,7 +16,7 @@ use Rattle.geometry.specs.Places.{Range}
 use Rattle.drives.specs.declared.Came.{Came}
 use Rattle.drives.specs.Table.{addressOf, failed}
 use Rattle.drives.specs.Facts.{address-lt}
-use Rattle.drives.specs.Lookup.{drive-found}
+use Rattle.drives.specs.Lookup.{drive-found, drive-inside}
 use Rattle.image.specs.Shelf.{Shelf, shelf-frame}
 use Rattle.command.specs.declared.Source.{Source}
 use Rattle.command.specs.Command.{sourceOf}
@@ -58,6 +58,12 @@ pub record Names (m : List ℕ) (g : Geometry) (a : Came) (x : Span) (e : Source
   pub there : NamesOther m g a x e
   pub small : e .address .0 < 4294967296
 
+-- an address that names a drive of an image of bytes is one
+pub names-small : (m : List ℕ) (g : Geometry) → Shelf m g → Octets m → (a : Came) (x : Span) (e : Source) → NamesOther m g a x e → Names m g a x e
+names-small m g h bytes a x e o =
+    let i = drive-inside m g (e .address .0) (o .drive) (o .found) in
+    record { there = o; small = omega (arith, address-lt m g (shelf-frame m g h) bytes (o .drive) (i .0), i .1) }
+
 -- drive e's blocks from block b on, as a source
 abbrev pub sourceAt : List ℕ → Geometry → ℕ → ℕ → Source
 sourceAt m g b e = source (addressOf m g e) b
@@ -67,10 +73,7 @@ pub names-drive : (m : List ℕ) (g : Geometry) → Shelf m g → Octets m → (
     → (e ≡ x .drive → ⊥)
     → Names m g a x (sourceAt m g b e)
 names-drive m g h o a x b e r up other =
-    record {
-      there = record { drive = e; found = drive-found m g (h .table-ok) e (r .drive-in); range = r; present = up; other = other };
-      small = omega (arith, address-lt m g (shelf-frame m g h) o e (r .drive-in));
-    }
+    names-small m g h o a x (sourceAt m g b e) (record { drive = e; found = drive-found m g (h .table-ok) e (r .drive-in); range = r; present = up; other = other })
 
 module _ (m : List ℕ) (g : Geometry) (h : Shelf m g) (a : Came) (x : Span) (b : ℕ) (es : List Source) (d : List ℕ)
     (each : EachIs (Names m g a x) es) where

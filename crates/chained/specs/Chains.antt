@@ -1,17 +1,14 @@
 -- What one call left the next one finds: blocks written are read, and a result retained is handed out.
 use Prim.Native.Nat.{ℕ, _<_}
-use mathlib.Core.Bool.{true}
 use mathlib.Core.List.{List, []}
 use mathlib.Core.Path.{_≡_, refl, ap, subst, _∙_}
 use lib.ListN.{length}
-use borrow.Author.Tests.{eq-eqb}
 use Rattle.octets.specs.Xor.{_⊻_}
-use Rattle.folds.specs.Every.{every-of}
 use Rattle.geometry.specs.declared.Geometry.{Geometry}
 use Rattle.geometry.specs.Header.{blocksAt}
 use Rattle.drives.specs.declared.Came.{Came}
 use Rattle.results.specs.First.{firstOf, sansFirst, first-hit, sans-hit}
-use Rattle.results.specs.Newest.{answers}
+use Rattle.results.specs.Newest.{answers, answers-own}
 use Rattle.results.specs.Results.{Result, results}
 use Rattle.command.specs.declared.Op.the-variants.{XdRead}
 use Rattle.command.specs.Command.{opOf}
@@ -45,13 +42,10 @@ module _ (m : List ℕ) (g : Geometry) (a : Came) (t : ℕ) (h : Target m g a t)
     abbrev its : Result
     its = resultIn 1 (blocks t b n) (s ⊻ blocksAt m g t b n)
 
-    asked : answers t b its ≡ true
-    asked = every-of _ (eq-eqb t t refl, (eq-eqb b b refl, tt))
-
     pub retained-is-handed : (code : ℕ) → opOf code ≡ XdRead → (room : List ℕ) → Roomy g (blocks t b n) (length room)
         → Does kept g a (xdreadCdb code b n) [] room (s ⊻ blocksAt m g t b n) [] (results m g)
     retained-is-handed code said room fits =
         let d = retained-xors m g a t h b n s r w e most more flags z a′ c la lc .after in
         let h′ = next m kept g _ _ d a t h in
-        subst (Does kept g a (xdreadCdb code b n) [] room (s ⊻ blocksAt m g t b n) []) (ap (sansFirst (answers t b)) (d .retained) ∙ sans-hit (answers t b) its (results m g) asked)
-        (xdread-does kept g a t h′ b its (ap (firstOf (answers t b)) (d .retained) ∙ first-hit (answers t b) its (results m g) asked) room fits code said)
+        subst (Does kept g a (xdreadCdb code b n) [] room (s ⊻ blocksAt m g t b n) []) (ap (sansFirst (answers t b)) (d .retained) ∙ sans-hit (answers t b) its (results m g) (answers-own its))
+        (xdread-does kept g a t h′ b its (ap (firstOf (answers t b)) (d .retained) ∙ first-hit (answers t b) its (results m g) (answers-own its)) room fits code said)

@@ -3,11 +3,11 @@ use Prim.Native.Nat.{ℕ, _+_, _≤_, _<_}
 use native.Mathlib.Nat.{zero-add}
 use native.Mathlib.Omega.{arith}
 use mathlib.Core.List.{List, [], _∷_, _++_}
-use mathlib.Core.Path.{_≡_, refl, sym, ap, ap₂, _∙_}
+use mathlib.Core.Path.{_≡_, refl, sym, ap, _∙_}
 use lib.ListN.{length, getD}
 use Rattle.octets.specs.Octets.{Octets}
-use Rattle.octets.specs.Part.{part, part-add, part-snoc, part-all}
-use Rattle.octets.specs.Number.{be, toBe, put-be}
+use Rattle.octets.specs.Part.{part, part-snoc, part-all}
+use Rattle.octets.specs.Number.{be, toBe, be-on}
 use Rattle.drives.specs.declared.Came.{Came}
 use Rattle.command.specs.declared.Op.{Op}
 use Rattle.command.specs.declared.Command.{Command}
@@ -55,12 +55,9 @@ unfolding cdbOf
 bytes-by k l e = ap (λ (x : Layout). bytesBy x k) e
 
 module _ (a : Came) (c : List ℕ) (b : Octets c) where
-  -- the front of the CDB is written: a byte more, and a number of m bytes more
+  -- the front of the CDB is written: a byte more (a number more is `be-on`)
   byte : (n : ℕ) {xs : List ℕ} → n < length c → xs ≡ part c 0 n → xs ++ getD c n 0 ∷ [] ≡ part c 0 (n + 1)
   byte n h e = ap (λ (r : List ℕ). r ++ getD c n 0 ∷ []) e ∙ sym (rw zero-add at (part-snoc c 0 n (omega arith)))
-
-  number : (m n : ℕ) {xs : List ℕ} → n + m ≤ length c → xs ≡ part c 0 n → xs ++ toBe m (be m c n) ≡ part c 0 (n + m)
-  number m n h e = ap₂ (λ (x y : List ℕ). x ++ y) e (put-be m c n h b) ∙ sym (rw zero-add at (part-add c 0 n m))
 
   head : 2 ≤ length c → getD c 0 0 ∷ getD c 1 0 ∷ [] ≡ part c 0 2
   unfolding part
@@ -73,12 +70,12 @@ module _ (a : Came) (c : List ℕ) (b : Octets c) where
       → getD c 0 0 ∷ getD c 1 0 ∷ [] ++ toBe 4 (be 4 c 2) ++ toBe 2 (be 2 c 6) ++ toBe 3 (be 3 c 8) ++ toBe 4 (be 4 c 11) ++ getD c 15 0 ∷ [] ≡ c
   sixteen-back l =
       byte 15 (omega arith)
-      (number 4 11 (omega arith) (number 3 8 (omega arith) (number 2 6 (omega arith) (number 4 2 (omega arith) (head (omega arith))))))
+      (be-on c b 4 11 (omega arith) (be-on c b 3 8 (omega arith) (be-on c b 2 6 (omega arith) (be-on c b 4 2 (omega arith) (head (omega arith))))))
       ∙ all 16 l
 
   ten-back : length c ≡ 10
       → getD c 0 0 ∷ getD c 1 0 ∷ [] ++ toBe 4 (be 4 c 2) ++ getD c 6 0 ∷ [] ++ toBe 2 (be 2 c 7) ++ getD c 9 0 ∷ [] ≡ c
-  ten-back l = byte 9 (omega arith) (number 2 7 (omega arith) (byte 6 (omega arith) (number 4 2 (omega arith) (head (omega arith))))) ∙ all 10 l
+  ten-back l = byte 9 (omega arith) (be-on c b 2 7 (omega arith) (byte 6 (omega arith) (be-on c b 4 2 (omega arith) (head (omega arith))))) ∙ all 10 l
 
   by-layout : (l : Layout) (o : Op) → length c ≡ sizeBy l → bytesBy l (commandBy l o a c) ≡ c
   unfolding sixteenOf tenOf listedOf part

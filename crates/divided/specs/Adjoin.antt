@@ -6,7 +6,7 @@ use mathlib.Core.Logic.{_⊎_, inl, inr, ⊎-elim}
 use mathlib.Core.Path.{_≡_, ap, subst, _∙_}
 use mathlib.Core.List.{List, [], _∷_, map, List·Permᴰ, Permᴰ·symm, Permᴰ·map}
 use Rattle.folds.specs.Cases.{order}
-use Rattle.folds.specs.Each.{EachIs, each-map, perm-each}
+use Rattle.folds.specs.Each.{EachIs, each-back, each-map, perm-each}
 use Rattle.divided.specs.InParts.{Extent, Adjoining}
 
 -- each lies within the whole
@@ -36,10 +36,6 @@ adjoining-bytes P l o n (p ∷ ps) (e, a) h j lo hi =
     (order j (o * l + p .count * l))
 
 -- ---- of things that have a range, in whatever order ps they stand
-
-pub each-back : {A B : Type 0} (f : A → B) (P : B → Type 0) (Q : A → Type 0) → ((x : A) → P (f x) → Q x) → (xs : List A) → EachIs P (map f xs) → EachIs Q xs
-each-back f P Q e [] h = tt
-each-back f P Q e (x ∷ xs) h = (e x (h .0), each-back f P Q e xs (h .1))
 
 module _ (n : ℕ) {C : Type 0} (range : C → Extent) (ps qs : List C) (order : List·Permᴰ qs ps) (adjoin : Adjoining 0 n (map range qs)) where
   pub all-within : EachIs (λ p. Within n (range p)) ps

@@ -1,5 +1,5 @@
 -- GOOD, where there is a list and a length: the command was carried out. What REBUILD then wrote, and what REGENERATE retained.
-use Prim.Native.Nat.{ℕ, zero, suc, _+_, _*_, _≤_, _<_}
+use Prim.Native.Nat.{ℕ, _+_, _*_, _≤_}
 use native.Mathlib.Omega.{arith}
 use mathlib.Core.Bool.{Bool, true, false, not, cond, true≢false}
 use mathlib.Core.Path.{_≡_, refl, sym, ap, ap₂, subst, _∙_}
@@ -37,13 +37,14 @@ use Rattle.sense.specs.Answers.{numberOf}
 use Rattle.command.specs.declared.Op.{Op}
 use Rattle.command.specs.declared.Op.the-variants.{XdRead, Rebuild, Regenerate}
 use Rattle.command.specs.declared.Source.{Source}
-use Rattle.command.specs.Command.{opOf, commandOf, tenOf, listedOf, sourceOf, ownOf, resolvedOf, resolvedCount}
+use Rattle.command.specs.Command.{opOf, commandOf, tenOf, listedOf, ownOf, resolvedOf, resolvedCount}
 use Rattle.meaning.specs.declared.Span.{Span}
 use Rattle.meaning.specs.declared.Act.the-variants.{XdRead as ToXdRead, Rebuild as ToRebuild, Regenerate as ToRegenerate}
 use Rattle.meaning.specs.declared.Decision.{Decision}
 use Rattle.meaning.specs.declared.Decision.the-variants.{Stop, Go}
 use Rattle.meaning.specs.Acts.{over, gathered}
 use Rattle.meaning.specs.Allowed.{Blocks, NamesOther, Sourced}
+use Rattle.meaning.specs.Lengths.{length-gathered}
 use Rattle.meaning.specs.Checks.{Check, checks, carriedOut, acts, decideOf}
 use Rattle.meaning.specs.Step.{decided, outcomeAfter, stepOutcome, stepImage, stepRoom}
 use Rattle.grants.specs.Good.{fault-fine}
@@ -53,7 +54,7 @@ use Rattle.demands_one_two.specs.Fine.{fine}
 use Rattle.callers.specs.After.{After}
 use Rattle.callers.specs.Does.{summing, blocks}
 use Rattle.callers.specs.Goes.{exactly, does}
-use Rattle.callers.specs.Lists.{entriesFrom}
+use Rattle.callers.specs.Lists.{entries-long, each-entry}
 use Rattle.callers.specs.Operands.{operands, gathered-entries}
 use Rattle.divided.specs.InParts.{Sent, Asks, IsGood, ours}
 
@@ -98,17 +99,6 @@ module _ (m : List ℕ) (a : Came) (c s r : List ℕ) where
 
 -- ---- what was asked was done
 
--- what is known of each entry that the step reads
-each-entry : (P : Source → Type 0) (s : List ℕ) (i left : ℕ) → ((j : ℕ) → j < i + left → P (sourceOf s j)) → EachIs P (entriesFrom s i left)
-unfolding entriesFrom
-each-entry P s i zero h = tt
-each-entry P s i (suc left) h = (h i (omega arith), each-entry P s (i + 1) left (λ j l. h j (omega arith)))
-
-length-entries : (s : List ℕ) (i left : ℕ) → length (entriesFrom s i left) ≡ left
-unfolding entriesFrom
-length-entries s i zero = refl
-length-entries s i (suc left) = ap suc (length-entries s (i + 1) left)
-
 module _ (m : List ℕ) (g : Geometry) (h : Shelf m g) (x : Sent) (t : ℕ) (found : targetOf m g (x .came) ≡ At t)
     (b n : ℕ) (some : 1 ≤ n) (es : List Source) (int : ℕ) (d : List ℕ) where
   abbrev a : Came
@@ -145,7 +135,7 @@ module _ (m : List ℕ) (g : Geometry) (h : Shelf m g) (x : Sent) (t : ℕ) (fou
     each-asked v = subst (EachIs (NamesOther m g a (blocks t b n))) (q .sources) (each-entry _ s 0 (getD s 0 0) (λ j l. v .each j (omega arith)))
 
     some-asked : Sourced m g (blocks t b n) (summing a int) s → 1 ≤ length es
-    some-asked v = omega (arith, v .some-source, length-entries s 0 (getD s 0 0), ap length (q .sources))
+    some-asked v = omega (arith, v .some-source, entries-long s 0 (getD s 0 0), ap length (q .sources))
 
     -- the intermediate data is as long as the blocks
     long-asked : Sourced m g (blocks t b n) (summing a int) s → length d ≡ cond (eqb int 0) 0 (n * g .l)
@@ -157,6 +147,7 @@ module _ (m : List ℕ) (g : Geometry) (h : Shelf m g) (x : Sent) (t : ℕ) (fou
     pub each : EachIs (NamesOther m g a (blocks t b n)) es
     pub some-source : 1 ≤ length es
     pub data-long : length d ≡ cond (eqb int 0) 0 (n * g .l)
+    pub sum-long : length (xorAll (operands m g a n es int d)) ≡ n * g .l
     pub image : stepImage m a c s (x .room) ≡ put m (place g t b) (xorAll (operands m g a n es int d))
     pub after : After m (stepImage m a c s (x .room)) g (stateOf m g) (over (blocks t b n) (xorAll (operands m g a n es int d)) ∷ []) (results m g)
 
@@ -176,6 +167,7 @@ module _ (m : List ℕ) (g : Geometry) (h : Shelf m g) (x : Sent) (t : ℕ) (fou
           each = each-asked Rebuild q (w .1);
           some-source = some-asked Rebuild q (w .1);
           data-long = long-asked Rebuild q (w .1);
+          sum-long = ap length (sym (sum-asked Rebuild q (w .1))) ∙ length-gathered m g (blocks t b n) (summing a int) s (shelf-frame m g h) (w .1);
           image = sym (exactly m g h a c s (x .room) _ rebuild-went .image) ∙ ap (put m (place g t b)) (sum-asked Rebuild q (w .1));
           after = subst (λ (ys : List ℕ). After m (stepImage m a c s (x .room)) g (stateOf m g) (over (blocks t b n) ys ∷ []) (results m g)) (sum-asked Rebuild q (w .1))
               (does m g h a c s (x .room) _ rebuild-went .after);

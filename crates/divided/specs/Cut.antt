@@ -3,7 +3,7 @@ use Prim.Native.Nat.{ℕ, _+_, _*_, _≤_, _<_}
 use native.Mathlib.Nat.{mul-le-mul}
 use native.Mathlib.Omega.{arith}
 use mathlib.Core.Bool.{Bool, true, false, cond}
-use mathlib.Core.Logic.{inl, ⊎-elim}
+use mathlib.Core.Logic.{⊎-elim}
 use mathlib.Core.Path.{_≡_, refl, sym, ap, ap₂, subst, _∙_}
 use mathlib.Core.List.{List, [], _∷_, map, List·Permᴰ}
 use lib.Dec.{eqb}
@@ -12,7 +12,7 @@ use Rattle.octets.specs.Part.{part}
 use Rattle.octets.specs.Put.{put}
 use Rattle.octets.specs.Operands.{xorAll, length-xorAll-le}
 use Rattle.folds.specs.declared.Found.the-variants.{At}
-use Rattle.folds.specs.Each.{EachIs, each-append, each-implies, each-map, perm-each}
+use Rattle.folds.specs.Each.{EachIs, each-append, each-back, each-map, perm-each}
 use Rattle.geometry.specs.declared.Geometry.{Geometry}
 use Rattle.geometry.specs.Header.{place}
 use Rattle.geometry.specs.Places.{place-on, range-room, range-long}
@@ -27,10 +27,10 @@ use Rattle.meaning.specs.Lengths.{home-range}
 use Rattle.callers.specs.Does.{blocks}
 use Rattle.callers.specs.Operands.{operands}
 use Rattle.divided.specs.InParts.{ours, IsGood, leaving, rebuilding, Adjoining, Cut, onward, CutOf, left, EachGood, CutFree}
-use Rattle.divided.specs.Adjoin.{Within, each-back, adjoining-end, all-within, all-bytes}
+use Rattle.divided.specs.Adjoin.{Within, adjoining-end, all-within, all-bytes}
 use Rattle.divided.specs.Carried.{Rebuilt, rebuilt}
-use Rattle.divided.specs.Parts.{SameButOne, Off, sum-part}
-use Rattle.divided.specs.Fill.{Stands, filled, fills-under, all-stand, Filling, Trail, ends, then, Filled, all-filled}
+use Rattle.divided.specs.Parts.{SameButOne, same-after, sum-part}
+use Rattle.divided.specs.Fill.{Stands, infill, fills-under, all-stand, Filling, Trail, ends, then, Filled, all-filled}
 use Rattle.divided.specs.Whole.{whole}
 
 -- a part that is as long as was asked for lies within
@@ -105,24 +105,18 @@ module _ (g : Geometry) (m : List ℕ) (u b n : ℕ) (es : List Source) (int : �
     each-named : EachIs (NamesOther m g a (blocks u b (o + j))) es
     each-named = each-back (onward o) _ _ named es (did .each)
 
-    each-off : EachIs (Off m g a u o j) es
-    each-off =
-        each-implies (NamesOther m g a (blocks u b (o + j))) (Off m g a u o j)
-        (λ e f. record { drive = f .drive; found = f .found; range = record { drive-in = f .range .drive-in; range-in = omega (arith, f .range .range-in) }; other = f .other }) es each-named
-
     -- it writes a part of what the whole writes
     part-is : part sum (o * g .l) (j * g .l) ≡ xorAll (operands y g c j (map (onward o) es) int (part d (o * g .l) (j * g .l)))
-    part-is = sum-part m y g u (w .same) a c n o j (k .within) es int d each-off
+    part-is = sum-part m y g u b (o + j) (w .same) a c n o j (omega arith) (k .within) es int d each-named
 
-    image-is : z ≡ filled at sum y (o * g .l) (j * g .l)
+    image-is : z ≡ infill at sum y (o * g .l) (j * g .l)
     image-is = k .image ∙ did .image ∙ ap₂ (put y) (place-on g u b o) (sym part-is)
 
     -- which is all there, and within the image
     sum-within : o * g .l + j * g .l ≤ length sum
     sum-within =
-        let f = shelf-frame _ g (did .after .shelf) in
-        let some : 1 * 4 ≤ j * g .l = mul-le-mul (k .cut .some-block) (f .placed .ranges .l-low) in
-        part-within sum (o * g .l) (j * g .l) (omega arith) (ap length (part-is ∙ sym (did .after .wrote .0)) ∙ range-long _ g u (b + o) j f (did .target-blocks .range))
+        let some : 1 * 4 ≤ j * g .l = mul-le-mul (k .cut .some-block) (shelf-frame y g (w .shelf) .placed .ranges .l-low) in
+        part-within sum (o * g .l) (j * g .l) (omega arith) (ap length part-is ∙ did .sum-long)
 
     room : at + o * g .l + j * g .l ≤ length y
     room = omega (arith, range-room y g u (b + o) j (shelf-frame y g (w .shelf)) (did .target-blocks .range), place-on g u b o)
@@ -132,11 +126,7 @@ module _ (g : Geometry) (m : List ℕ) (u b n : ℕ) (es : List Source) (int : �
         let t = did .after in
         record {
           shelf = t .shelf;
-          same =
-              record {
-                addresses = λ v l. t .address-kept v l ∙ w .same .addresses v l;
-                others = λ v l ne. t .kept (blocks v 0 (g .b)) (record { drive-in = l; range-in = omega arith }) (inl ne, tt) ∙ w .same .others v l ne;
-              };
+          same = same-after y _ m g _ _ _ t (w .same);
           states = λ v l. t .state-is v l ∙ w .states v l;
           under = ap (λ (i : List ℕ). put i at sum) (sym (k .image) ∙ image-is) ∙ fills-under at sum y (o * g .l) (j * g .l) sum-within room ∙ w .under;
         }

@@ -53,8 +53,8 @@ use Rattle.divided.specs.Said.{regenerating}
 -- ---- the shelf
 
 -- blocks of four bytes, each byte so much above the last
-abbrev pub blocks : ℕ → ℕ → List ℕ
-blocks k s = row k ++ row (k + 4 * s) ++ row (k + 8 * s) ++ row (k + 12 * s)
+abbrev pub rising : ℕ → ℕ → List ℕ
+rising k s = row k ++ row (k + 4 * s) ++ row (k + 8 * s) ++ row (k + 12 * s)
   where
     row : ℕ → List ℕ
     row k = four k (k + s) (k + 2 * s) (k + 3 * s)
@@ -63,10 +63,10 @@ blocks k s = row k ++ row (k + 4 * s) ++ row (k + 8 * s) ++ row (k + 12 * s)
 abbrev shelfOf : List ℕ → List ℕ → List ℕ
 shelfOf slot first =
     four 0 0 0 4 ++ four 0 0 0 4 ++ four 0 0 0 4 ++ four 0 0 0 1 ++ four 0 0 0 2 ++ four 0 0 0 32 ++ four 0 0 0 48 ++ four 0 0 0 72
-    ++ four 0 0 0 1 ++ four 0 0 0 2 ++ four 0 0 0 3 ++ four 0 0 0 4 ++ slot ++ first ++ blocks 0x11 1 ++ blocks 0x21 7 ++ blocks 3 13
+    ++ four 0 0 0 1 ++ four 0 0 0 2 ++ four 0 0 0 3 ++ four 0 0 0 4 ++ slot ++ first ++ rising 0x11 1 ++ rising 0x21 7 ++ rising 3 13
 
 abbrev pub shelf : List ℕ
-shelf = shelfOf (replicate 24 0) (blocks 0x80 1)
+shelf = shelfOf (replicate 24 0) (rising 0x80 1)
 
 abbrev pub shape : Geometry
 shape = record { d = 4; b = 4; l = 4; s = 1; m = 2; table = 32; slots = 48; media = 72 }
@@ -91,10 +91,10 @@ rebuild ys = rebuilding (to 1) 4 2 2 others ys []
 
 -- what the first two leave
 abbrev pub regenerated : List ℕ → List ℕ
-regenerated ys = shelfOf (four 0 0 0 1 ++ four 2 1 0 2 ++ four 0 0 0 1 ++ zeros ++ ys) (blocks 0x80 1)
+regenerated ys = shelfOf (four 0 0 0 1 ++ four 2 1 0 2 ++ four 0 0 0 1 ++ zeros ++ ys) (rising 0x80 1)
 
 abbrev pub fetched : List ℕ → List ℕ
-fetched ys = shelfOf (replicate 16 0 ++ ys) (blocks 0x80 1)
+fetched ys = shelfOf (replicate 16 0 ++ ys) (rising 0x80 1)
 
 -- one REBUILD in their place, its list in another order
 abbrev pub all : List Source
@@ -192,7 +192,7 @@ pub two-strings : ours (fetched passed) one ≡ leaving (ours (fetched passed) (
 two-strings = by-law 0x34 0x3E 0x38 0x2E 0x24 0x5E 0x50 0x4E ours passes joins
 
 -- and the blocks are these
-pub strings-left : ours (fetched passed) (rebuild passed) .image ≡ shelfOf (replicate 16 0 ++ passed) (take 8 (blocks 0x80 1) ++ four 0x4E 0x54 0xAE 0xA8 ++ four 0xAE 0xE4 0xFE 0x90)
+pub strings-left : ours (fetched passed) (rebuild passed) .image ≡ shelfOf (replicate 16 0 ++ passed) (take 8 (rising 0x80 1) ++ four 0x4E 0x54 0xAE 0xA8 ++ four 0xAE 0xE4 0xFE 0x90)
 unfolding cdbOf opOf toBe part put num sourceOf decideOf stepOutcome stepImage stepRoom validImage slotOf slotAt place every allBelow countBelow leastBelow driveOf emptySlot better bestOf newestOf bytesOf tenOf listedOf ownOf resolvedOf listBytes ownEntry driveBad entryBad firstBad sourcesFrom gathered xorAll _⊻_
 strings-left = refl
 

@@ -21,29 +21,29 @@ module _ (at : ℕ) (xs : List ℕ) where
   Stands y j = getD y (at + j) 0 ≡ getD xs j 0
 
   -- y with k bytes from byte a on written
-  abbrev pub filled : List ℕ → ℕ → ℕ → List ℕ
-  filled y a k = put y (at + a) (part xs a k)
+  abbrev pub infill : List ℕ → ℕ → ℕ → List ℕ
+  infill y a k = put y (at + a) (part xs a k)
 
   module _ (y : List ℕ) (a k : ℕ) (inside : a + k ≤ length xs) (room : at + a + k ≤ length y) where
     -- they stand
-    pub fills : (j : ℕ) → a ≤ j → j < a + k → Stands (filled y a k) j
+    pub fills : (j : ℕ) → a ≤ j → j < a + k → Stands (infill y a k) j
     fills j l h =
         let e : at + j ≡ at + a + (j - a) = omega arith in
         let f : a + (j - a) ≡ j = omega arith in
-        ap (λ (i : ℕ). getD (filled y a k) i 0) e
+        ap (λ (i : ℕ). getD (infill y a k) i 0) e
         ∙ getD-put-in y (at + a) (part xs a k) (j - a) (omega arith) (omega (arith, length-part xs a k inside))
         ∙ getD-part xs a k (j - a) (omega arith)
         ∙ ap (λ (i : ℕ). getD xs i 0) f
 
     -- and so does what stood
-    fills-more : (j : ℕ) → Stands y j → Stands (filled y a k) j
+    fills-more : (j : ℕ) → Stands y j → Stands (infill y a k) j
     fills-more j h =
         ⊎-elim (λ l. getD-put-before y (at + a) (part xs a k) (at + j) (omega arith) ∙ h)
         (λ l. ⊎-elim (λ u. fills j l u) (λ u. getD-put-after y (at + a) (part xs a k) (at + j) (omega (arith, length-part xs a k inside)) ∙ h) (order j (a + k)))
         (order j a)
 
     -- what is written over all of it leaves no trace of them
-    pub fills-under : put (filled y a k) at xs ≡ put y at xs
+    pub fills-under : put (infill y a k) at xs ≡ put y at xs
     fills-under = put-cover y (at + a) (part xs a k) at xs (omega arith) (omega (arith, length-part xs a k inside))
 
   -- all of them stand: they are written
@@ -56,7 +56,7 @@ module _ (at : ℕ) (xs : List ℕ) where
 
 -- ---- ranges, one after the other
 
--- image after image: what is filled is what `see` shows of them, blocks have l bytes, all images have I, and each range shows G
+-- image after image: what is infill is what `see` shows of them, blocks have l bytes, all images have I, and each range shows G
 module _ (at : ℕ) (xs : List ℕ) (l : ℕ) (see : List ℕ → List ℕ) (I : List ℕ → Type 0) {C : Type 0} (range : C → Extent) (G : C → Type 0) where
   abbrev first : C → ℕ
   first p = range p .from * l
@@ -68,7 +68,7 @@ module _ (at : ℕ) (xs : List ℕ) (l : ℕ) (see : List ℕ → List ℕ) (I :
   pub record Filling (p : C) (y z : List ℕ) : Type 0 where
     pub within : first p + many p ≤ length xs
     pub room : at + first p + many p ≤ length (see y)
-    pub fills-it : see z ≡ filled at xs (see y) (first p) (many p)
+    pub fills-it : see z ≡ infill at xs (see y) (first p) (many p)
     pub has : I z
     pub shows : G p
 
@@ -91,7 +91,7 @@ module _ (at : ℕ) (xs : List ℕ) (l : ℕ) (see : List ℕ → List ℕ) (I :
       all-filled (then {p} {ps} {y} {z} {e} t ts) i =
           let w = one p y z i t in
           let q = all-filled ts (w .has) in
-          let stands : (j : ℕ) → Stands at xs (filled at xs (see y) (first p) (many p)) j → Stands at xs (see e) j =
+          let stands : (j : ℕ) → Stands at xs (infill at xs (see y) (first p) (many p)) j → Stands at xs (see e) j =
           (λ j h. q .keeps j (subst (λ (s : List ℕ). Stands at xs s j) (sym (w .fills-it)) h)) in
           record {
             has = q .has;

@@ -69,7 +69,9 @@ leaving m x = reply (outcomeOf Good 0) m (x .room)
 
 -- ---- what REBUILD and REGENERATE ask for
 
--- the command x, with a list, asks for n blocks from block b on, of drives of B, from the sources es; with Int Data d where int is not 0
+-- the command x, with a list, asks for n blocks from block b on, of drives of B, from the sources es; with Int Data d where int is not 0:
+-- "byte 1: bit 2 Int Data", "length 2-5, list length 7-8", where "length FFFFFFFFh means to the last block"; in the list "4-7 own block; then 8
+-- bytes per source"
 pub record Asks (o : Op) (B : ℕ) (x : Sent) (b n : ℕ) (es : List Source) (int : ℕ) (d : List ℕ) : Type 0 where
   pub code : opOf (getD (x .cdb) 0 0) ≡ o
   pub flag : getD (x .cdb) 1 0 / 4 % 2 ≡ int

@@ -1,13 +1,12 @@
 -- What two strings leave besides the target's blocks: every medium as the one REBUILD leaves it, and no result more than before.
 use Prim.Native.Nat.{ℕ, _*_, _≤_, _<_}
 use native.Mathlib.Omega.{arith}
-use mathlib.Core.Bool.{true, cond}
+use mathlib.Core.Bool.{cond}
 use lib.Dec.{eqb}
 use lib.ListN.{length}
-use mathlib.Core.Logic.{inl, ⊎-elim}
-use mathlib.Core.Path.{_≡_, refl, sym, ap, ap₂, _∙_}
+use mathlib.Core.Logic.{⊎-elim}
+use mathlib.Core.Path.{_≡_, sym, ap, ap₂, _∙_}
 use mathlib.Core.List.{List, [], _∷_, _++_, List·Permᴰ}
-use borrow.Author.Tests.{eq-eqb}
 use Rattle.octets.specs.Part.{part}
 use Rattle.octets.specs.Put.{put}
 use Rattle.octets.specs.PutPut.{part-put-below, put-comm}
@@ -19,7 +18,6 @@ use Rattle.folds.specs.declared.Found.{Found}
 use Rattle.folds.specs.declared.Found.the-variants.{At}
 use Rattle.folds.specs.Least.{index}
 use Rattle.folds.specs.Cases.{same}
-use Rattle.folds.specs.Every.{every-of}
 use Rattle.geometry.specs.declared.Geometry.{Geometry}
 use Rattle.geometry.specs.Header.{dataAt, place, blocksAt}
 use Rattle.geometry.specs.Places.{place-after-media, slot-before-media, data-ends}
@@ -28,7 +26,7 @@ use Rattle.slots.specs.Find.{emptySlot, newestOf}
 use Rattle.slots.specs.Facts.{empty-inside}
 use Rattle.slots.specs.Change.{released}
 use Rattle.results.specs.First.{sansFirst, sans-hit}
-use Rattle.results.specs.Newest.{answers}
+use Rattle.results.specs.Newest.{answers, answers-own}
 use Rattle.results.specs.Results.{Result, results, withResult}
 use Rattle.results.specs.Passing.{passing, newest-new}
 use Rattle.image.specs.Shelf.{Shelf, shelf-frame}
@@ -41,7 +39,7 @@ use Rattle.callers.specs.Operands.{operands}
 use Rattle.divided.specs.InParts.{Sent, ours, IsGood, Asks, First, Fetched, Second, mediumOf, SameMedia, together}
 use Rattle.divided.specs.Between.{after-media}
 use Rattle.divided.specs.Carried.{Regenerated, Rebuilt, rebuilt, xdread-image, xdread-after}
-use Rattle.divided.specs.Media.{each-named, medium-put, then-same}
+use Rattle.divided.specs.Media.{other-medium, each-named, medium-put, then-same}
 use Rattle.divided.specs.Strings.{first-done, fetched, second-done, sum-is}
 
 -- a REBUILD that was answered GOOD leaves header, drive table and slots as they were
@@ -85,9 +83,7 @@ module _ (g : Geometry) (m m′ m″ : List ℕ) (x y z : Sent) (t u b c n : ℕ
     media-alike i l =
         ⊎-elim
         (λ e. ap (mediumOf (ours k o .image) g) e ∙ target-alike ∙ ap (mediumOf (ours m″ z .image) g) (sym e))
-        (λ ne. once .after .kept (blocks i 0 (g .b)) (record { drive-in = l; range-in = omega arith }) (inl ne, tt)
-        ∙ same-as .media i l
-        ∙ sym (did .after .kept (blocks i 0 (g .b)) (record { drive-in = l; range-in = omega arith }) (inl ne, tt)))
+        (λ ne. other-medium k _ g _ _ _ (once .after) i l ne ∙ same-as .media i l ∙ sym (other-medium m″ _ g _ _ _ (did .after) i l ne))
         (same i u)
 
 -- ---- one after the other, with nothing between
@@ -101,6 +97,9 @@ module _ (g : Geometry) (m : List ℕ) (x y : Sent) (t b n : ℕ) (es : List Sou
   read = ours kept y .image
 
   module _ (p : First ours m g x t b n es int d) (q : Fetched ours kept kept g y t b n ys) where
+    abbrev its : Result
+    its = resultIn 2 (blocks t b n) (blocksAt m g t b n ⊻ xorAll (operands m g (x .came) n es int d))
+
     did-first : Regenerated m g (p .shelf) x t (p .found) b n (p .some-block) es int d
     did-first = first-done g m kept x y t b n es int d ys p q
 
@@ -115,23 +114,20 @@ module _ (g : Geometry) (m : List ℕ) (x y : Sent) (t b n : ℕ) (es : List Sou
     pub read-is : Octets m → read ≡ put m (dataAt g (index (emptySlot m g))) ys
     read-is bytes =
         let k = index (emptySlot m g) in
-        let r = resultIn 2 (blocks t b n) (blocksAt m g t b n ⊻ xorAll (operands m g (x .came) n es int d)) in
         let f = shelf-frame m g (p .shelf) in
-        let i = newest-new m g f (p .shelf .slots-ok) k (did-first .free) r (did-first .sound) in
+        let i = newest-new m g f (p .shelf .slots-ok) k (did-first .free) its (did-first .sound) in
         xdread-image kept g (q .shelf) y t (q .found) (q .code) (q .good)
         ∙ ap₂ (λ (s : List ℕ) (j : ℕ). released s g (index (newestOf s g t j))) (did-first .image) (q .block)
-        ∙ ap (λ (o : Found). released (withResult m g r) g (index o)) i
-        ∙ passing m g f (p .shelf .slots-ok) k (did-first .free) r (did-first .sound) bytes
+        ∙ ap (λ (o : Found). released (withResult m g its) g (index o)) i
+        ∙ passing m g f (p .shelf .slots-ok) k (did-first .free) its (did-first .sound) bytes
         ∙ ap (put m (dataAt g k)) (sym (fetched g m kept x y t b n es int d ys p q))
 
     -- so the results by age are as before
     results-read : results read g ≡ results m g
     results-read =
-        let k = resultIn 2 (blocks t b n) (blocksAt m g t b n ⊻ xorAll (operands m g (x .came) n es int d)) in
-        let asked : answers t b k ≡ true = every-of _ (eq-eqb t t refl, (eq-eqb b b refl, tt)) in
         did-fetch .retained
         ∙ ap₂ (λ (i : ℕ) (rs : List Result). sansFirst (answers t i) rs) (q .block) (did-first .after .retained)
-        ∙ sans-hit (answers t b) k (results m g) asked
+        ∙ sans-hit (answers t b) its (results m g) (answers-own its)
 
     -- after the second string's REBUILD too, and so are the states
     module _ (z : Sent) (u c : ℕ) (fs : List Source) (v : Second ours read g z u c n fs ys) where

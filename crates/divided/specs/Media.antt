@@ -2,13 +2,13 @@
 use Prim.Native.Nat.{ℕ, _+_, _*_, _≤_, _<_}
 use native.Mathlib.Nat.{mul-le-mul-right, add-mul, zero-add}
 use native.Mathlib.Omega.{arith}
+use mathlib.Core.Logic.{inl}
 use mathlib.Core.Path.{_≡_, refl, sym, ap, ap₂, _∙_}
 use mathlib.Core.List.{List, [], _∷_, map}
 use lib.ListN.{length}
 use Rattle.octets.specs.Part.{part, part-part}
 use Rattle.octets.specs.Put.{put}
 use Rattle.octets.specs.PutPut.{part-put-in}
-use Rattle.octets.specs.Octets.{Octets}
 use Rattle.folds.specs.declared.Found.{Found}
 use Rattle.folds.specs.declared.Found.the-variants.{At}
 use Rattle.folds.specs.Each.{EachIs}
@@ -18,17 +18,16 @@ use Rattle.geometry.specs.Header.{place, blocksAt}
 use Rattle.geometry.specs.Places.{Range, place-on, range-long}
 use Rattle.drives.specs.declared.Came.{Came}
 use Rattle.drives.specs.Table.{sourceDrive}
-use Rattle.drives.specs.Facts.{address-lt}
 use Rattle.drives.specs.Front.{drive-ext}
-use Rattle.drives.specs.Lookup.{drive-inside}
+use Rattle.results.specs.Results.{Result}
 use Rattle.image.specs.Shelf.{Shelf, shelf-frame}
 use Rattle.command.specs.declared.Source.{Source}
 use Rattle.meaning.specs.declared.Span.{Span}
-use Rattle.meaning.specs.Acts.{homeOf, namedBlocks}
+use Rattle.meaning.specs.Acts.{Over, homeOf, namedBlocks}
 use Rattle.meaning.specs.Allowed.{NamesOther}
 use Rattle.meaning.specs.Lengths.{home-range}
+use Rattle.callers.specs.After.{After}
 use Rattle.callers.specs.Does.{blocks}
-use Rattle.callers.specs.Sources.{Names}
 use Rattle.divided.specs.InParts.{mediumOf, SameMedia, Ready}
 
 -- n blocks from block o of n blocks or more on
@@ -51,6 +50,11 @@ medium-put m g v b ys =
 
 pub medium-long : (m : List ℕ) (g : Geometry) (v : ℕ) → Shelf m g → v < g .d → length (mediumOf m g v) ≡ g .b * g .l
 medium-long m g v h l = range-long m g v 0 (g .b) (shelf-frame m g h) (record { drive-in = l; range-in = omega arith })
+
+-- a write to one drive leaves the media of the others
+pub other-medium : (y z : List ℕ) (g : Geometry) (states : ℕ → ℕ) (w : Over) (rs : List Result) → After y z g states (w ∷ []) rs
+    → (v : ℕ) → v < g .d → (v ≡ w .blocks .drive → ⊥) → mediumOf z g v ≡ mediumOf y g v
+other-medium y z g states w rs t v l ne = t .kept (blocks v 0 (g .b)) (record { drive-in = l; range-in = omega arith }) (inl ne, tt)
 
 pub then-same : (m m′ m″ : List ℕ) (g : Geometry) → SameMedia m m′ g → SameMedia m′ m″ g → SameMedia m m″ g
 then-same m m′ m″ g w v = record { addresses = λ d l. w .addresses d l ∙ v .addresses d l; media = λ d l. w .media d l ∙ v .media d l }
@@ -87,9 +91,3 @@ same-itself m g = record { addresses = λ v l. refl; media = λ v l. refl }
 pub names-anyhow : (m : List ℕ) (g : Geometry) (a a′ : Came) (x : Span) (e : Source) → NamesOther m g a x e → NamesOther m g a′ x e
 names-anyhow m g a a′ x e o =
     record { drive = o .drive; found = sym (same-drive m m g (same-itself m g) a a′ (e .address .0)) ∙ o .found; range = o .range; present = o .present; other = o .other }
-
--- an address of an image of bytes fits the four bytes of an entry
-pub names-small : (m : List ℕ) (g : Geometry) → Shelf m g → Octets m → (a : Came) (x : Span) (e : Source) → NamesOther m g a x e → Names m g a x e
-names-small m g h bytes a x e o =
-    let i = drive-inside m g (e .address .0) (o .drive) (o .found) in
-    record { there = o; small = omega (arith, address-lt m g (shelf-frame m g h) bytes (o .drive) (i .0), i .1) }

@@ -2,8 +2,8 @@
 use Prim.Native.Nat.{ℕ, _+_, _≤_, _<_}
 use native.Mathlib.Omega.{arith}
 use mathlib.Core.Path.{_≡_, refl, sym, ap, _∙_}
-use mathlib.Core.List.{List, [], _∷_, _++_, List·Permᴰ, Permᴰ·symm}
-use Rattle.folds.specs.Each.{EachIs, each-append, each-implies, perm-each}
+use mathlib.Core.List.{List, _∷_, List·Permᴰ, Permᴰ·symm}
+use Rattle.folds.specs.Each.{EachIs, each-append, each-both, each-implies, perm-each}
 use Rattle.folds.specs.Least.{at-same}
 use Rattle.geometry.specs.declared.Geometry.{Geometry}
 use Rattle.geometry.specs.Frame.{Framed}
@@ -64,17 +64,13 @@ module _ (g : Geometry) (m m′ m″ : List ℕ) (x y z : Sent) (t u b c n : ℕ
       let same : k ≡ o .drive = at-same f (o .found) in
       (ap (failed m″ g) same ∙ o .present, λ i. o .other (sym same ∙ i))
 
-  front : (P : Source → Type 0) (es fs : List Source) → EachIs P (es ++ fs) → EachIs P es
-  front P [] fs h = tt
-  front P (e ∷ es) fs h = (h .0, front P es fs (h .1))
-
   -- where it is GOOD it has what it needs, and where it has that it is GOOD
   pub needs : IsGood ours m″ one → EachIs (Ready m″ g a u) (sourceAt m″ g b t ∷ es)
   needs good =
       let own = second-done g m m′ m″ x y z t u b c n es fs int d ys p q v w .target-blocks .range in
       let asks = rebuild-asks (g .b) c n zs int d a flags r (p .some-block) (own .range-in) (frame .placed .ranges .b-high) all-fit (said .few) (said .byte) count (said .how-long) in
       let did = rebuilt m″ g (v .shelf) one u (said .found) c n (p .some-block) zs int d asks good in
-      front (Ready m″ g a u) (sourceAt m″ g b t ∷ es) fs (perm-each (Ready m″ g a u) (Permᴰ·symm all) (each-implies (NamesOther m″ g a (blocks u c n)) (Ready m″ g a u) ready zs (did .each)))
+      each-both (Ready m″ g a u) (sourceAt m″ g b t ∷ es) fs (perm-each (Ready m″ g a u) (Permᴰ·symm all) (each-implies (NamesOther m″ g a (blocks u c n)) (Ready m″ g a u) ready zs (did .each))) .0
 
   pub good-if-ready : EachIs (Ready m″ g a u) (sourceAt m″ g b t ∷ es) → IsGood ours m″ one
   good-if-ready k = ap (λ s. s .outcome .answer) (in-one g m m′ m″ x y z t u b c n es fs int d ys p q v w a zs all flags count r said k)

@@ -2,7 +2,7 @@
 use Prim.Native.Nat.{ℕ, _+_, _*_, _≤_, _<_}
 use native.Mathlib.Nat.{add-mul}
 use native.Mathlib.Omega.{arith}
-use mathlib.Core.Logic.{inl, ⊎-elim}
+use mathlib.Core.Logic.{⊎-elim}
 use mathlib.Core.Path.{_≡_, refl, sym, ap, ap₂, subst, _∙_}
 use mathlib.Core.List.{List, [], _∷_, map, map-append, List·Permᴰ, Permᴰ·map}
 use lib.ListN.{length}
@@ -11,27 +11,25 @@ use Rattle.octets.specs.Put.{put, length-put}
 use Rattle.octets.specs.Operands.{xorAll}
 use Rattle.folds.specs.declared.Found.the-variants.{At}
 use Rattle.folds.specs.Cases.{same}
-use Rattle.folds.specs.Each.{EachIs, each-implies}
+use Rattle.folds.specs.Each.{EachIs}
 use Rattle.geometry.specs.declared.Geometry.{Geometry}
 use Rattle.geometry.specs.Header.{place}
-use Rattle.geometry.specs.Places.{range-long}
 use Rattle.drives.specs.declared.Came.{Came}
 use Rattle.drives.specs.Table.{addressOf, targetOf}
 use Rattle.drives.specs.Lookup.{drive-inside}
-use Rattle.image.specs.Shelf.{Shelf, shelf-frame}
+use Rattle.image.specs.Shelf.{Shelf}
 use Rattle.command.specs.declared.Op.the-variants.{Rebuild}
 use Rattle.command.specs.declared.Source.{Source}
-use Rattle.meaning.specs.Allowed.{NamesOther}
 use Rattle.callers.specs.Does.{blocks}
 use Rattle.callers.specs.Lists.{source}
 use Rattle.callers.specs.Operands.{operands}
 use Rattle.divided.specs.InParts.{Sent, ours, IsGood, Asks, mediumOf, SameMedia, together, Adjoining, onward, Strung, StrungOf, Chain, JoinsByRanges}
 use Rattle.divided.specs.Adjoin.{Within, all-within, all-bytes}
 use Rattle.divided.specs.Carried.{Rebuilt, rebuilt}
-use Rattle.divided.specs.Media.{blocks-upto, medium-put, medium-long, then-same}
-use Rattle.divided.specs.Parts.{SameButOne, Off, sum-part}
+use Rattle.divided.specs.Media.{other-medium, blocks-upto, medium-put, medium-long, then-same}
+use Rattle.divided.specs.Parts.{SameButOne, same-after, sum-part}
 use Rattle.divided.specs.Strings.{second-done, sum-is}
-use Rattle.divided.specs.Fill.{Stands, filled, fills-under, all-stand, Filling, Trail, ends, then, Filled, all-filled}
+use Rattle.divided.specs.Fill.{Stands, infill, fills-under, all-stand, Filling, Trail, ends, then, Filled, all-filled}
 
 -- all sources, moved along
 moved-together : (m y : List ℕ) (g : Geometry) (t b o : ℕ) (es fs : List Source) → addressOf y g t ≡ addressOf m g t
@@ -53,9 +51,6 @@ module _ (g : Geometry) (m : List ℕ) (t u b c n : ℕ) (es fs zs : List Source
 
   did : Rebuilt m g h x u found c n some zs int d
   did = rebuilt m g h x u found c n some zs int d asks good
-
-  sum-long : length sum ≡ n * g .l
-  sum-long = ap length (sym (did .after .wrote .0)) ∙ range-long _ g u c n (shelf-frame _ g (did .after .shelf)) (did .target-blocks .range)
 
   abbrev see : List ℕ → List ℕ
   see y = mediumOf y g u
@@ -103,11 +98,6 @@ module _ (g : Geometry) (m : List ℕ) (t u b c n : ℕ) (es fs zs : List Source
         second-done g (p .first-on) (p .fetched-on) f (p .regenerate) (p .fetch) (p .rebuild) t u (b + o) (c + o) j (map (onward o) es) (map (onward o) fs) int (cut d) (p .bytes)
         (k .strung .first) (k .strung .fetched) (k .strung .second) (k .strung .same)
 
-    each-off : EachIs (Off m g a u o j) zs
-    each-off =
-        each-implies (NamesOther m g a (blocks u c n)) (Off m g a u o j)
-        (λ e q. record { drive = q .drive; found = q .found; range = record { drive-in = q .range .drive-in; range-in = omega (arith, q .range .range-in, k .within) }; other = q .other }) zs (did .each)
-
     all-moved : List·Permᴰ (map (onward o) zs) (together f g t (b + o) (map (onward o) es) (map (onward o) fs))
     all-moved =
         let inside : t < g .d = drive-inside (p .first-on) g (p .regenerate .came .target .0) t (k .strung .first .found) .0 in
@@ -119,19 +109,19 @@ module _ (g : Geometry) (m : List ℕ) (t u b c n : ℕ) (es fs zs : List Source
         ∙ ap (put f (place g u (c + o)))
         (sym (sum-is g (p .first-on) (p .fetched-on) f (p .regenerate) (p .fetch) (p .rebuild) t u (b + o) (c + o) j (map (onward o) es) (map (onward o) fs) int (cut d) (p .bytes)
         (k .strung .first) (k .strung .fetched) (k .strung .second) (k .strung .same) a (map (onward o) zs) all-moved)
-        ∙ sym (sum-part m f g u same-here a a n o j (k .within) zs int d each-off))
+        ∙ sym (sum-part m f g u c n same-here a a n o j (k .within) (k .within) zs int d (did .each)))
 
     seen-here : see y ≡ see f
     seen-here = linked .media u (did .target-blocks .range .drive-in)
 
-    fills-it : see z ≡ filled at sum (see y) (o * g .l) (j * g .l)
+    fills-it : see z ≡ infill at sum (see y) (o * g .l) (j * g .l)
     fills-it =
         ap see (k .image ∙ wrote)
         ∙ medium-put f g u (c + o) (cut sum)
         ∙ ap₂ (λ (s : List ℕ) (i : ℕ). put s i (cut sum)) (sym seen-here) (add-mul c o (g .l))
 
     within : o * g .l + j * g .l ≤ length sum
-    within = omega (arith, blocks-upto (g .l) o j n (k .within), sum-long)
+    within = omega (arith, blocks-upto (g .l) o j n (k .within), did .sum-long)
 
     room : at + o * g .l + j * g .l ≤ length (see y)
     room =
@@ -142,11 +132,7 @@ module _ (g : Geometry) (m : List ℕ) (t u b c n : ℕ) (es fs zs : List Source
     midway =
         let q = second .after in
         record {
-          same =
-              record {
-                addresses = λ v l. q .address-kept v l ∙ same-here .addresses v l;
-                others = λ v l ne. q .kept (blocks v 0 (g .b)) (record { drive-in = l; range-in = omega arith }) (inl ne, tt) ∙ same-here .others v l ne;
-              };
+          same = same-after f _ m g _ _ _ q same-here;
           under = ap (λ (s : List ℕ). put s at sum) (ap see (sym (k .image)) ∙ fills-it) ∙ fills-under at sum (see y) (o * g .l) (j * g .l) within room ∙ w .under;
         }
 
@@ -193,8 +179,8 @@ module _ (g : Geometry) (m : List ℕ) (t u b c n : ℕ) (es fs zs : List Source
     target-is =
         let s = see (ended .last) in
         let long : length s ≡ g .b * g .l = sym (length-put s at sum) ∙ ap length (run .has .under) ∙ length-put (see m) at sum ∙ medium-long m g u h inside in
-        all-stand at sum (see m) s (omega (arith, blocks-upto (g .l) c n (g .b) (did .target-blocks .range .range-in), sum-long))
-        (λ i l. all-bytes n (λ p. p .range) ps qs order adjoin (Stands at sum s) (g .l) (run .stand) i (omega (arith, sum-long)))
+        all-stand at sum (see m) s (omega (arith, blocks-upto (g .l) c n (g .b) (did .target-blocks .range .range-in), did .sum-long))
+        (λ i l. all-bytes n (λ p. p .range) ps qs order adjoin (Stands at sum s) (g .l) (run .stand) i (omega (arith, did .sum-long)))
         (run .has .under)
 
     target-same : mediumOf e g u ≡ mediumOf (ours m x .image) g u
@@ -205,7 +191,7 @@ module _ (g : Geometry) (m : List ℕ) (t u b c n : ℕ) (es fs zs : List Source
         ⊎-elim (λ q. ap (mediumOf e g) q ∙ target-same ∙ ap (mediumOf (ours m x .image) g) (sym q))
         (λ ne. sym (ended .same .media v l)
         ∙ run .has .same .others v l ne
-        ∙ sym (did .after .kept (blocks v 0 (g .b)) (record { drive-in = l; range-in = omega arith }) (inl ne, tt)))
+        ∙ sym (other-medium m _ g _ _ _ (did .after) v l ne))
         (same v u)
 
 pub joins-by-ranges : JoinsByRanges ours

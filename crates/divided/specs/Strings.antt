@@ -1,25 +1,23 @@
 -- "this leaves the target's medium as one REBUILD over all the sources would"
 use Prim.Native.Nat.{ℕ, _+_, _≤_}
 use native.Mathlib.Omega.{arith}
-use mathlib.Core.Bool.{true, cond}
-use mathlib.Core.Path.{_≡_, refl, sym, ap, ap₂, _∙_}
+use mathlib.Core.Bool.{cond}
+use mathlib.Core.Path.{_≡_, sym, ap, ap₂, _∙_}
 use mathlib.Core.Option.{some}
 use mathlib.Core.List.{List, [], _∷_, _++_, map, map-append, List·Permᴰ, Permᴰ·map}
 use lib.Dec.{eqb}
 use lib.ListN.{length}
-use borrow.Author.Tests.{eq-eqb}
 use Rattle.octets.specs.Xor.{_⊻_, xor-commutes, xor-regroups, xor-swaps}
 use Rattle.octets.specs.Operands.{xorAll, xorAll-one, xorAll-append, xorAll-perm}
 use Rattle.folds.specs.declared.Found.{Found}
 use Rattle.folds.specs.Each.{EachIs, each-append, each-implies, perm-each, perm-length}
-use Rattle.folds.specs.Every.{every-of}
 use Rattle.folds.specs.Least.{index}
 use Rattle.geometry.specs.declared.Geometry.{Geometry}
 use Rattle.geometry.specs.Header.{blocksAt}
 use Rattle.drives.specs.declared.Came.{Came}
 use Rattle.drives.specs.Lookup.{drive-found}
 use Rattle.results.specs.First.{firstOf, first-hit}
-use Rattle.results.specs.Newest.{answers}
+use Rattle.results.specs.Newest.{answers, answers-own}
 use Rattle.results.specs.Results.{results}
 use Rattle.command.specs.declared.Source.{Source}
 use Rattle.meaning.specs.Acts.{namedBlocks}
@@ -52,9 +50,8 @@ module _ (g : Geometry) (m m′ : List ℕ) (x y : Sent) (t b n : ℕ) (es : Lis
   pub fetched : ys ≡ its
   fetched =
       let k = resultIn 2 (blocks t b n) its in
-      let asked : answers t b k ≡ true = every-of _ (eq-eqb t t refl, (eq-eqb b b refl, tt)) in
       let newest : firstOf (answers t b) (results m′ g) ≡ some k =
-      q .newest ∙ ap (firstOf (answers t b)) (first-done .after .retained) ∙ first-hit (answers t b) k (results m g) asked in
+      q .newest ∙ ap (firstOf (answers t b)) (first-done .after .retained) ∙ first-hit (answers t b) k (results m g) (answers-own k) in
       q .bytes
       ∙ xdread-handed m′ g (q .shelf) y t (q .found) (q .code) (q .good) k (ap (λ (i : ℕ). firstOf (answers t i) (results m′ g)) (q .block) ∙ newest)
 

@@ -20,10 +20,9 @@ use Rattle.command.specs.declared.Source.{Source}
 use Rattle.meaning.specs.Allowed.{Blocks, NamesOther}
 use Rattle.meaning.specs.Stepped.{Stepped}
 use Rattle.callers.specs.Does.{blocks}
-use Rattle.callers.specs.Sources.{Names}
+use Rattle.callers.specs.Sources.{Names, names-small}
 use Rattle.callers.specs.Operands.{operands, rebuild-exactly}
 use Rattle.divided.specs.InParts.{sent, reply, ours, leaving, rebuilding, WellSaid}
-use Rattle.divided.specs.Media.{names-small}
 
 -- what a step left, all three at once
 stepped : (m : List ℕ) (a : Came) (c s r : List ℕ) (o : Outcome) (m′ r′ : List ℕ) → Stepped m a c s r o m′ r′ → ours m (sent a c s r) ≡ reply o m′ r′

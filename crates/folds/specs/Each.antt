@@ -27,15 +27,23 @@ module _ {A : Type 0} where
     each-append [] ys h k = k
     each-append (x ∷ xs) ys h k = (h .0, each-append xs ys (h .1) k)
 
+    pub each-both : (xs ys : List A) → EachIs P (xs ++ ys) → EachIs P xs × EachIs P ys
+    each-both [] ys h = (tt, h)
+    each-both (x ∷ xs) ys h = let q = each-both xs ys (h .1) in ((h .0, q .0), q .1)
+
     -- what has P has Q
     pub each-implies : (Q : A → Type 0) → ((x : A) → P x → Q x) → (xs : List A) → EachIs P xs → EachIs Q xs
     each-implies Q e [] h = tt
     each-implies Q e (x ∷ xs) h = (e x (h .0), each-implies Q e xs (h .1))
 
--- what has P goes to what has Q
+-- what has P goes to what has Q, and what goes to what has P has Q
 pub each-map : {A B : Type 0} (f : A → B) (P : A → Type 0) (Q : B → Type 0) → ((x : A) → P x → Q (f x)) → (xs : List A) → EachIs P xs → EachIs Q (map f xs)
 each-map f P Q e [] h = tt
 each-map f P Q e (x ∷ xs) h = (e x (h .0), each-map f P Q e xs (h .1))
+
+pub each-back : {A B : Type 0} (f : A → B) (P : B → Type 0) (Q : A → Type 0) → ((x : A) → P (f x) → Q x) → (xs : List A) → EachIs P (map f xs) → EachIs Q xs
+each-back f P Q e [] h = tt
+each-back f P Q e (x ∷ xs) h = (e x (h .0), each-back f P Q e xs (h .1))
 
 -- ---- in another order
 

@@ -8,7 +8,7 @@ use mathlib.Core.List.{List, [], _∷_, _++_}
 use lib.ListN.{length, getD, length-append}
 use lib.Arith.{digits-lt, digits-div, digits-mod, mod-mul}
 use Rattle.octets.specs.Octets.{Octets, octets-tail, octets-part}
-use Rattle.octets.specs.Part.{part, length-part, part-part, part-cons}
+use Rattle.octets.specs.Part.{part, length-part, part-part, part-cons, part-add}
 use Rattle.octets.specs.Put.{put}
 use Rattle.octets.specs.PutPut.{part-put, part-put-apart}
 
@@ -101,6 +101,10 @@ be-put n xs at v h hv =
 
 pub put-be : (n : ℕ) (xs : List ℕ) (at : ℕ) → at + n ≤ length xs → Octets xs → toBe n (be n xs at) ≡ part xs at n
 put-be n xs at h hb = rw length-part at (toBe-num (part xs at n) (octets-part xs at n hb))
+
+-- where xs are the first n bytes, they and the number of k bytes that follows are the first n + k
+pub be-on : (c : List ℕ) → Octets c → (k n : ℕ) {xs : List ℕ} → n + k ≤ length c → xs ≡ part c 0 n → xs ++ toBe k (be k c n) ≡ part c 0 (n + k)
+be-on c b k n h e = ap₂ (λ (x y : List ℕ). x ++ y) e (put-be k c n h b) ∙ sym (rw zero-add at (part-add c 0 n k))
 
 -- a number inside a part, and one apart from what was written
 pub be-part : (n : ℕ) (xs : List ℕ) (at m a : ℕ) → a + n ≤ m → be n (part xs at m) a ≡ be n xs (at + a)

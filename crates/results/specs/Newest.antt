@@ -11,7 +11,7 @@ use borrow.Author.Tests.{eq-eqb, ne-eqb}
 use Rattle.folds.specs.declared.Found.{Found}
 use Rattle.folds.specs.declared.Found.the-variants.{At, Nothing}
 use Rattle.folds.specs.Cases.{either, order}
-use Rattle.folds.specs.Every.{every, holds}
+use Rattle.folds.specs.Every.{every, holds, every-of}
 use Rattle.geometry.specs.declared.Geometry.{Geometry}
 use Rattle.geometry.specs.Frame.{Framed}
 use Rattle.slots.specs.declared.Slot.{Slot}
@@ -81,6 +81,10 @@ wantedAt m g drive block i = wanted drive block (slotOf m g i)
 -- a result on a drive with a block number
 abbrev pub answers : ℕ → ℕ → Result → Bool
 answers drive block r = every (eqb (r .drive) drive ∷ eqb (r .block) block ∷ [])
+
+-- its own drive and block
+pub answers-own : (r : Result) → answers (r .drive) (r .block) r ≡ true
+answers-own r = every-of _ (eq-eqb (r .drive) (r .drive) refl, (eq-eqb (r .block) (r .block) refl, tt))
 
 module _ (m : List ℕ) (g : Geometry) (ok : slotsOk m g ≡ true) (drive block : ℕ) where
   first-newest : (i : ℕ) → newestOf m g drive block ≡ At i → firstOf (wantedAt m g drive block) (byAge m g) ≡ some i

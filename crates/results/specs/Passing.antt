@@ -5,14 +5,13 @@ use mathlib.Core.Bool.{true, true≢false}
 use mathlib.Core.Path.{_≡_, refl, sym, ap, subst, _∙_}
 use mathlib.Core.Logic.{⊎-elim}
 use mathlib.Core.List.{List, _++_}
-use lib.Dec.{lit≤}
 use lib.ListN.{length, replicate}
 use borrow.Author.Tests.{le-ltb, eq-eqb}
-use Rattle.octets.specs.Part.{part, length-part, part-add, part-whole}
+use Rattle.octets.specs.Part.{part, length-part}
 use Rattle.octets.specs.Put.{put, length-put}
 use Rattle.octets.specs.PutPut.{put-put, put-comm, put-append, put-part}
 use Rattle.octets.specs.Octets.{Octets, octets-part}
-use Rattle.octets.specs.Number.{toBe, be, put-be}
+use Rattle.octets.specs.Number.{toBe}
 use Rattle.folds.specs.declared.Found.{Found}
 use Rattle.folds.specs.declared.Found.the-variants.{At, Nothing}
 use Rattle.folds.specs.Cases.{either, same}
@@ -23,8 +22,8 @@ use Rattle.geometry.specs.Stores.{stored, inTurn, in-turn-keeps}
 use Rattle.geometry.specs.Frame.{Framed}
 use Rattle.geometry.specs.Places.{slot-room}
 use Rattle.slots.specs.declared.Slot.{Slot}
-use Rattle.slots.specs.Record.{recordOf, bytesOf, slotOf, isUsed}
-use Rattle.slots.specs.RecordLaws.{length-bytes}
+use Rattle.slots.specs.Record.{bytesOf, slotOf, isUsed}
+use Rattle.slots.specs.RecordLaws.{length-bytes, bytes-record}
 use Rattle.slots.specs.Slots.{usedIn, usedCount, slotsOk}
 use Rattle.slots.specs.Facts.{Right, right, right-ok, empty-inside}
 use Rattle.slots.specs.Find.{emptySlot, wanted, newestOf}
@@ -42,23 +41,6 @@ none-falls : (g : Geometry) (rank : ℕ) (m : List ℕ) (n : ℕ) → ((i : ℕ)
 none-falls g rank m n h =
     in-turn-keeps (fallStores g rank) m (λ i t. t ≡ m) n
     (λ i t l e. subst (λ (u : List ℕ). stored u (fallStores g rank i u) ≡ m) (sym e) (rw (le-ltb rank (slotOf m g i .rank) (h i l)))) refl
-
--- ---- sixteen bytes are their record
-
-bytes-record : (xs : List ℕ) → Octets xs → length xs ≡ 16 → bytesOf (recordOf xs) ≡ xs
-unfolding bytesOf
-bytes-record xs o l =
-    let field : (n at : ℕ) → at + n ≤ 16 → toBe n (be n xs at) ≡ part xs at n = (λ n at h. put-be n xs at (omega arith) o) in
-    rw (field 4 0 (lit≤ tt), field 1 4 (lit≤ tt), field 1 5 (lit≤ tt), field 2 6 (lit≤ tt), field 4 8 (lit≤ tt), field 4 12 (lit≤ tt)) (joined xs l)
-  where
-    joined : (xs : List ℕ) → length xs ≡ 16 → part xs 0 4 ++ part xs 4 1 ++ part xs 5 1 ++ part xs 6 2 ++ part xs 8 4 ++ part xs 12 4 ≡ xs
-    joined xs l =
-        sym (part-add xs 0 12 4
-        ∙ ap (λ (z : List ℕ). z ++ part xs 12 4)
-        (part-add xs 0 8 4
-        ∙ ap (λ (z : List ℕ). z ++ part xs 8 4)
-        (part-add xs 0 6 2 ∙ ap (λ (z : List ℕ). z ++ part xs 6 2) (part-add xs 0 5 1 ∙ ap (λ (z : List ℕ). z ++ part xs 5 1) (part-add xs 0 4 1)))))
-        ∙ part-whole xs 16 (omega arith)
 
 -- ---- in an empty slot
 

@@ -5,7 +5,7 @@ use mathlib.Core.List.{List, [], _∷_, _++_}
 use mathlib.Core.Bool.{Bool, true, false, cond}
 use mathlib.Core.Path.{_≡_, refl, ap}
 use lib.ListN.{length, getD}
-use Rattle.folds.specs.Each.{EachIs}
+use Rattle.folds.specs.Each.{EachIs, each-both}
 
 -- a check: its number, the place where it is seen, whether it applies, what it then answers
 pub data Rule (P A : Type 0) : Type 0 where
@@ -33,8 +33,7 @@ module _ {P A : Type 0} where
 
   -- of lists joined none applies where none does of either
   pub pass-both : (rs ss : List (Rule P A)) → AllPass (rs ++ ss) → AllPass rs × AllPass ss
-  pass-both [] ss p = (tt, p)
-  pass-both (rule n w b a ∷ rs) ss p = let q = pass-both rs ss (p .1) in ((p .0, q .0), q .1)
+  pass-both rs ss p = each-both (λ r. applies r ≡ false) rs ss p
 
 -- stop makes a decision of a rule that applies
 module _ {P A D : Type 0} (stop : ℕ → P → A → D) where

@@ -8,9 +8,10 @@ use lib.Dec.{lit≤}
 use lib.ListN.{length, getD, replicate}
 use mir.Syntax.{w64}
 use mir.Val.{Fits}
-use Rattle.octets.specs.Part.{part}
+use Rattle.octets.specs.Part.{part, part-whole}
+use Rattle.octets.specs.Octets.{Octets}
 use Rattle.octets.specs.Put.{put}
-use Rattle.octets.specs.Number.{be, num, toBe, length-toBe, num-toBe-lt, be-put, be-put-apart, be-part, be-one, toBe1, toBe2, toBe4}
+use Rattle.octets.specs.Number.{be, num, toBe, length-toBe, num-toBe-lt, put-be, be-on, be-put, be-put-apart, be-part, be-one, toBe1, toBe2, toBe4}
 use Rattle.octets.specs.declared.Four.{Four}
 use Rattle.octets.specs.Four.{fourOf}
 use Rattle.geometry.specs.declared.Geometry.{Geometry}
@@ -48,6 +49,14 @@ record-bytes r h =
     same-slot (recordOf (bytesOf r)) r (num-toBe-lt 4 (r .rank) (h .rank-small)) (num-toBe-lt 1 (r .kind) (h .kind-small))
     (num-toBe-lt 1 (r .drive) (h .drive-small)) (num-toBe-lt 2 (r .len) (h .len-small)) (num-toBe-lt 4 (r .block .0) (h .block-small))
     (num-toBe-lt 4 (r .last) (h .last-small))
+
+-- and sixteen bytes are those that their record is written as
+pub bytes-record : (xs : List ℕ) → Octets xs → length xs ≡ 16 → bytesOf (recordOf xs) ≡ xs
+unfolding bytesOf
+bytes-record xs o l =
+    be-on xs o 4 12 (omega arith)
+    (be-on xs o 4 8 (omega arith) (be-on xs o 2 6 (omega arith) (be-on xs o 1 5 (omega arith) (be-on xs o 1 4 (omega arith) (put-be 4 xs 0 (omega arith) o)))))
+    ∙ part-whole xs 16 (omega arith)
 
 -- sixteen zeros are an empty slot's record
 pub record-zeros : recordOf (replicate 16 0) ≡ zeroSlot
