@@ -1,5 +1,8 @@
 // What a decided command does to the image and to the receive room. Every fact that it needs was
 // shown by the decision: nothing is checked here, and nothing is refused.
+
+#![tactic(auto)]
+
 mod keep;
 mod moves;
 mod pass;

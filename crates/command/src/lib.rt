@@ -1,5 +1,8 @@
 // A command by value: what the bytes of its CDB and of its parameter list say. Nothing is refused
 // here, and nothing is lost: the CDB can be written back from the command.
+
+#![tactic(auto)]
+
 ghost use Rattle.std.specs.Prelude.{◌≡◌, ◌+◌, ◌*◌, ◌<◌, ◌≤◌, length};
 ghost use Rattle.geometry.specs.Frame.{InRange};
 ghost use Rattle.command.specs.Command.{op_of1994, op_of, has, size_of, zero_bits, sixteen_of, ten_of, listed_of, command_of, mirror_of, ndisc_of, sec_of, int_of, list_sec_of, disable_of, Fits, own_of, source_of, resolved_of, list_bytes};

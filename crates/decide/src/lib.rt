@@ -1,5 +1,8 @@
 // What becomes of a command: 01's checks in 01's order, on a shared image. No caller has checked
 // anything.
+
+#![tactic(auto)]
+
 mod each;
 
 ghost use Rattle.std.specs.Prelude.{◌≡◌, ◌<◌};

@@ -1,5 +1,8 @@
 // 01's checks 4 to 11 of REBUILD and REGENERATE, but for the bits of byte 1 that must be zero. The two
 // differ in which lengths are refused and in that REGENERATE keeps its result: `keep` says which it is.
+
+#![tactic(auto)]
+
 mod list;
 mod sources;
 

@@ -1,5 +1,8 @@
 // 01's checks 4 to 11 of READ, WRITE, XPWRITE, XDREAD, XDWRITE(10) and XDWRITEREAD(10), but for the bits
 // of byte 1 that must be zero, in 01's order.
+
+#![tactic(auto)]
+
 mod newest;
 mod plain;
 mod xdwrite;

@@ -1,5 +1,8 @@
 // 01's checks 4 to 11 of XDWRITE, but for the bits of byte 1 that must be zero: its result goes to the
 // secondary, or with Sec Ctl 11 into a slot.
+
+#![tactic(auto)]
+
 ghost use Rattle.std.specs.Prelude.{◌≡◌};
 ghost use Rattle.geometry.specs.Frame.{Framed};
 ghost use Rattle.command.specs.Command.{Fits};

@@ -68,6 +68,9 @@ module _ (m s : List ℕ) where
   pairs_decide : (xs ys : List Check) (d e : Decision) → Pairs xs ys → d ≡ e → (outcome_after (first Stop xs d) m s).answer ≡ Good → first Stop xs d ≡ first Stop ys e
   unfolding Pairs
   pairs_decide [] [] d e h q g = q
+  pairs_decide [] (y ∷ ys) d e h q g = elim h [ ]
+  pairs_decide (rule n w false a ∷ xs) [] d e h q g = elim h [ ]
+  pairs_decide (rule n w true a ∷ xs) [] d e h q g = elim h [ ]
   pairs_decide (rule n w true a ∷ xs) (y ∷ ys) d e (inl p, h) q g = ap (λ (z : Check). first Stop (z ∷ ys) e) p
   pairs_decide (rule n w false a ∷ xs) (y ∷ ys) d e (inl p, h) q g = pairs_decide xs ys d e h q g ∙ ap (λ (z : Check). first Stop (z ∷ ys) e) p
   pairs_decide (rule n w true a ∷ xs) (rule n' w' b' a' ∷ ys) d e (inr (p, never), h) q g = absurd (never refl g)
@@ -160,6 +163,8 @@ pairs_same (x ∷ xs) = (inl refl, pairs_same xs)
 pairs_append : (xs xs' ys ys' : List Check) → Pairs xs xs' → Pairs ys ys' → Pairs (xs ++ ys) (xs' ++ ys')
 unfolding Pairs
 pairs_append [] [] ys ys' h k = k
+pairs_append [] (x' ∷ xs') ys ys' h k = elim h [ ]
+pairs_append (x ∷ xs) [] ys ys' h k = elim h [ ]
 pairs_append (x ∷ xs) (x' ∷ xs') ys ys' (h, hs) k = (h, pairs_append xs xs' ys ys' hs k)
 
 module _ (m : List ℕ) (a : Came) (c s s' : List ℕ) (w : Reordered s s') where

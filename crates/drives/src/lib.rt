@@ -1,5 +1,8 @@
 // The drive table of a shelf's image: each drive's state and address, the lookup of addresses, and
 // the marking of a drive.
+
+#![tactic(auto)]
+
 ghost use Rattle.std.specs.Prelude.{◌≡◌, ◌<◌, ◌≤◌, length};
 ghost use Rattle.geometry.specs.Frame.{Framed};
 ghost use Rattle.drives.specs.Table.{address_of, failed, table_ok, drive_of, target_of, secondary_of, source_drive, marked};

@@ -17,6 +17,7 @@ module _ {A : Type 0} where
     each_at (y ∷ ys) x h (suc i) l = each_at ys x h.1 i (omega arith)
 
     pub each_mem : (xs : List A) → EachIs P xs → (x : A) → Memᴰ x xs → P x
+    each_mem [] h x m = elim m [ ]
     each_mem (y ∷ ys) h x (Memᴰ.head e) = subst P (sym e) h.0
     each_mem (y ∷ ys) h x (Memᴰ.tail m) = each_mem ys h.1 x m
 

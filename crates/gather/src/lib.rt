@@ -1,5 +1,8 @@
 // The XOR of the sources of REBUILD and REGENERATE, by a plain path and by a faster one that leaves the
 // same.
+
+#![tactic(auto)]
+
 mod operands;
 mod pieces;
 mod sources;

@@ -2,6 +2,9 @@
 //
 // Only this crate knows the header's layout, the table's stride and the sizes of a slot; other
 // crates ask for places.
+
+#![tactic(auto)]
+
 ghost use Rattle.std.specs.Prelude.{◌≡◌, ◌+◌, ◌*◌, ◌<◌, ◌≤◌, length};
 ghost use Rattle.geometry.specs.Header.{geometry_of, ranges_ok, offsets_ok, framed_ok, end_of, entry_at, slot_at, place};
 ghost use Rattle.geometry.specs.Frame.{InRange, Placed};

@@ -1,4 +1,7 @@
 // Words of a line of text: where they end, and the bytes and numbers that they say in hexadecimal.
+
+#![tactic(auto)]
+
 mod digits;
 mod split;
 

@@ -1,4 +1,7 @@
 // Is it a shelf? Every byte string gets an answer, and no caller has checked anything.
+
+#![tactic(auto)]
+
 ghost use Rattle.std.specs.Prelude.{◌≡◌};
 ghost use Rattle.image.specs.Valid.{valid_image};
 

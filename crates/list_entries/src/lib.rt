@@ -1,4 +1,7 @@
 // Searches among the source entries of a parameter list: 01's checks 7 and 10.
+
+#![tactic(auto)]
+
 ghost use Rattle.std.specs.Prelude.{◌≡◌, ◌+◌, ◌*◌, ◌<◌, ◌≤◌, length};
 ghost use Rattle.geometry.specs.Frame.{Framed};
 ghost use Rattle.meaning.specs.Sources.{is_at, own_entry, first_bad};

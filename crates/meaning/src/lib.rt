@@ -10,6 +10,9 @@
 //     b  a block number          n  how many                           x, y  blocks of a drive
 //     z  an answer               w  where a check saw it               e  a slot's record, or a source
 //     j  what is summed          (in `drives`, below it, `a` is an address)
+
+#![tactic(auto)]
+
 use drives::Came;
 use geometry::Block;
 use sense::Answer;

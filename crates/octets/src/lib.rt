@@ -3,6 +3,9 @@
 // Their contracts are single equations in the vocabulary of `specs/`: `part` (a range read), `put`
 // (a range written), `⊻` (XOR, the shorter list filled up with zeros), `be n` and `to_be n`
 // (big-endian numbers). Only the functions named `_at` lend a part of a mutable slice.
+
+#![tactic(auto)]
+
 mod new;
 mod number;
 

@@ -1,5 +1,8 @@
 // The XOR of many parts of one slice, in few passes: eight parts at once where there are as many, four
 // of the others at once, and then one by one.
+
+#![tactic(auto)]
+
 ghost use Rattle.std.specs.Prelude.{◌≡◌, ◌+◌, ◌<◌, ◌≤◌, length};
 ghost use Rattle.octets.specs.Xor.{◌⊻◌};
 ghost use Rattle.octets.specs.Operands.{xor_all};

@@ -1,4 +1,7 @@
 // The row program: reads a shelf's image on standard input, and prints its row sums.
+
+#![tactic(auto)]
+
 use libc::{STDIN_FILENO, STDOUT_FILENO};
 
 // Prints what `rowsum` makes of the input. The room is as long as the longest text (the law

@@ -2,6 +2,9 @@
 //
 // `listing` answers for every image and every room: the whole text at the room's front, or nothing
 // and 0 where the room is too short. No listing is empty, so 0 tells the two apart.
+
+#![tactic(auto)]
+
 mod count;
 mod lines;
 mod sum;

@@ -1,4 +1,7 @@
 // The answers of 01, the number of each, and its sense by value.
+
+#![tactic(auto)]
+
 ghost use Rattle.std.specs.Prelude.{◌≡◌, ◌++◌, ◌≤◌, replicate};
 ghost use Rattle.octets.specs.Put.{put};
 ghost use Rattle.sense.specs.Answers.{number_of};

@@ -1,5 +1,8 @@
 // The step, the reset and the marking of a drive. Every image, command and data gets an answer; the
 // caller has checked nothing.
+
+#![tactic(auto)]
+
 ghost use Rattle.std.specs.Prelude.{◌≡◌};
 ghost use Rattle.meaning.specs.Stepped.{Stepped, Reset, Marked};
 

@@ -1,5 +1,8 @@
 // What the recorder's C driver calls: numbers and byte slices, each slice a pointer and a length.
 // include/shelf.h says what a driver writer must know.
+
+#![tactic(auto)]
+
 ghost use Rattle.std.specs.Prelude.{◌≡◌, [], ◌∷◌};
 ghost use Rattle.drives.specs.Table.{to};
 ghost use Rattle.sense.specs.Answers.{number_of};

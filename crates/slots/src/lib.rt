@@ -1,4 +1,7 @@
 // A shelf's slots: the results that its drives retain, read, judged, searched and changed.
+
+#![tactic(auto)]
+
 mod change;
 mod find;
 mod judge;

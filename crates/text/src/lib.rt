@@ -2,6 +2,9 @@
 //
 // A writer takes the room, the index to write at and what to write, and answers the index after it.
 // Its contract is one record, `Wrote`; two writers one after the other are the law `Wrote-then`.
+
+#![tactic(auto)]
+
 ghost use Rattle.std.specs.Prelude.{◌≡◌, ◌++◌, ◌+◌, ◌*◌, ◌<◌, ◌≤◌, length};
 ghost use Rattle.text.specs.Decimal.{decimal};
 ghost use Rattle.text.specs.Hexadecimal.{hex_digit, hexadecimal};
