@@ -16,5 +16,5 @@ pub address_spec : {M : Type 1} → statement M
 address_spec =
     tie.close (tie.spec (λ c κs. (c.before.requires.0.placed, c.before.requires.1))
     (λ c. omega (arith, c.entry_at.ensures.1))
-    (λ c κs. omega (arith, c.entry_at.ensures.1, c.before.before.requires.0.media_end, c.before.before.requires.0.placed.slots_end_lem))
+    (λ c κs. omega (arith, c.entry_at.ensures.1, c.before.before.requires.0.media_end, c.before.before.requires.0.placed.slot_ends))
     returns)

@@ -34,7 +34,7 @@ keep-new-requires c κs =
 byte-requires : tie.Need-byte-requires invariant-loop decreases-loop
 byte-requires c κs =
     let pre = c.before.before.before.before.before.before.before.before.before.before.requires in
-    omega (arith, c.entry_at.ensures.1, pre.0.media_end, pre.0.placed.slots_end_lem)
+    omega (arith, c.entry_at.ensures.1, pre.0.media_end, pre.0.placed.slot_ends)
 
 loop-again : tie.Need-loop-preserved invariant-loop decreases-loop
 loop-again c =
