@@ -1,7 +1,6 @@
 -- `act::moves::read` meets its contract.
 use native.Mathlib.Omega.{arith}
 use Rattle.meaning.specs.Lengths.{span_in}
-use Rattle.act.specs.Moves.{handed_by}
 use Rattle.act.proofs.moves.read.Goals as goal
 
 pub hand_over-requires : goal.hand_over-requires
@@ -10,9 +9,3 @@ hand_over-requires c =
     let pre = c.requires in
     let place = c.place in
     (omega (arith, span_in args.image.now args.g args.x pre.0 pre.1.0.range, place.ensures.0), pre.1.1)
-
-pub returns : goal.returns
-returns c =
-    let place = c.place in
-    let hand-over = c.hand_over in
-    handed_by _ _ _ _ _ _ _ place.ensures.0 hand-over.ensures

@@ -1,7 +1,6 @@
 -- `act::moves::xpwrite` meets its contract.
 use native.Mathlib.Omega.{arith}
 use Rattle.meaning.specs.Lengths.{span_in}
-use Rattle.act.specs.Moves.{xored_by}
 use Rattle.act.proofs.moves.xpwrite.Goals as goal
 
 pub xor_at-requires : goal.xor_at-requires
@@ -10,10 +9,3 @@ xor_at-requires c =
     let pre = c.requires in
     let place = c.place in
     omega (arith, span_in args.image.now args.g args.x pre.0 pre.1.0.range, place.ensures.0, pre.1.1)
-
-pub returns : goal.returns
-returns c =
-    let pre = c.requires in
-    let place = c.place in
-    let xor-at = c.xor_at in
-    xored_by _ _ _ _ _ _ pre.1.1 place.ensures.0 xor-at.ensures

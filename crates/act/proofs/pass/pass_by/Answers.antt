@@ -1,24 +1,11 @@
 -- `act::pass::pass_by` meets its contract.
 use mathlib.Core.Path.{refl}
 use native.Mathlib.Omega.{arith}
-use Rattle.act.specs.PassTurns.{passed_none, still_passable, passed_more, passed_all}
+use Rattle.act.specs.PassTurns.{passed_none, passed_more, passed_all}
 use Rattle.act.proofs.pass.pass_by.Goals as goal
 
 pub loop-o-init : goal.loop-o-init
 loop-o-init c = (omega arith, refl, refl, passed_none _ _ _)
-
-pub least-k-requires : goal.least-k-requires
-least-k-requires c = tt
-
-pub pass_front-requires : goal.pass_front-requires
-pass_front-requires c =
-    let pre = c.requires in
-    let the-loop = c.loop-o in
-    let least = c.least-k in
-    (still_passable _ _ _ pre.0 _ _ the-loop.invariant.3, omega (arith, least.ensures), omega (arith, least.ensures))
-
-pub loop-o-smaller : goal.loop-o-smaller
-loop-o-smaller c = omega (arith, c.least-k.ensures)
 
 pub loop-o-preserved : goal.loop-o-preserved
 loop-o-preserved c =

@@ -1,13 +1,6 @@
 -- `act::rebuild::rebuild` meets its contract.
-use native.Mathlib.Omega.{arith}
-use Rattle.meaning.specs.Lengths.{list_in}
 use Rattle.act.specs.Rebuild.{rebuild_ready, rebuilt_by}
 use Rattle.act.proofs.rebuild.rebuild.Goals as goal
-
-pub byte-n-requires : goal.byte-n-requires
-byte-n-requires c =
-    let pre = c.requires in
-    omega (arith, list_in _ _ _ _ _ pre.0 pre.1.1)
 
 pub gather-requires : goal.gather-requires
 gather-requires c =

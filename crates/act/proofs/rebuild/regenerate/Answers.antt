@@ -1,18 +1,8 @@
 -- `act::rebuild::regenerate` meets its contract.
 use mathlib.Core.Path.{ap}
 use Prim.Native.Nat.{ℕ, ◌+◌}
-use native.Mathlib.Omega.{arith}
-use Rattle.meaning.specs.Lengths.{list_in}
 use Rattle.act.specs.Rebuild.{regenerate_ready, regenerated_by}
 use Rattle.act.proofs.rebuild.regenerate.Goals as goal
-
-pub byte-n-requires : goal.byte-n-requires
-byte-n-requires c =
-    let pre = c.requires in
-    omega (arith, list_in _ _ _ _ _ pre.0 pre.1.1)
-
-pub overflow_add-rank : goal.overflow_add-rank
-overflow_add-rank c = omega (arith, c.used_count-rank.ensures.1)
 
 pub gather-requires : goal.gather-requires
 gather-requires c =

@@ -6,9 +6,6 @@ use Rattle.meaning.specs.Lengths.{span_in}
 use Rattle.act.specs.Xdwrite.{retain_passable, retained_by}
 use Rattle.act.proofs.xdwrite.retain.Goals as goal
 
-pub overflow_add-rank : goal.overflow_add-rank
-overflow_add-rank c = omega (arith, c.used_count-rank.ensures.1)
-
 pub pass_on-requires : goal.pass_on-requires
 pass_on-requires c =
     let args = c.args in

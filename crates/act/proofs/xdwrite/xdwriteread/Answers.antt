@@ -1,15 +1,8 @@
 -- `act::xdwrite::xdwriteread` meets its contract.
-use mathlib.Core.Path.{sym}
 use native.Mathlib.Omega.{arith}
 use Rattle.meaning.specs.Lengths.{span_in}
 use Rattle.act.specs.Xdwrite.{front_long, xdwriteread_by}
 use Rattle.act.proofs.xdwrite.xdwriteread.Goals as goal
-
-pub slice_bounds-mix-end-2 : goal.slice_bounds-mix-end-2
-slice_bounds-mix-end-2 c =
-    let args = c.args in
-    let pre = c.requires in
-    sym (front_long args.g args.x args.sent.now args.room.now pre.1.1 pre.1.2)
 
 pub mix-requires : goal.mix-requires
 mix-requires c =

@@ -1,18 +1,11 @@
 -- `gather::operands::xor_int` meets its contract.
 use native.Mathlib.Omega.{arith}
-use lib.ListN.{length-take, length-drop}
 use borrow.Author.Tests.{ne_eqb}
 use Rattle.gather.specs.InTurn.{int_add, int_none}
 use Rattle.gather.proofs.operands.xor_int.Goals as goal
 
 pub returns-then-int-eq0 : goal.returns-then-int-eq0
 returns-then-int-eq0 c = int_none _ _ _ _ _ _ c.if-int-eq0.true
-
-pub xor_from-requires : goal.xor_from-requires
-xor_from-requires c =
-    let pre = c.requires in
-    let if1 = c.if-int-eq0 in
-    simp (length-take, length-drop) (omega (arith, pre.1 (ne_eqb _ _ if1.false)))
 
 pub returns : goal.returns
 returns c =

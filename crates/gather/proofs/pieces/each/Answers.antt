@@ -7,21 +7,12 @@ use Rattle.gather.proofs.pieces.each.Goals as goal
 pub loop-o-init : goal.loop-o-init
 loop-o-init c = (omega arith, refl, refl, reached_none _ _ _ _)
 
-pub least-k-requires : goal.least-k-requires
-least-k-requires c = tt
-
 pub front-requires : goal.front-requires
 front-requires c =
     let pre = c.requires in
     let the-loop = c.loop-o in
     let least = c.least-k in
     (reached_ready _ _ _ _ pre.0 _ _ the-loop.invariant.3 (omega (arith, pre.2)), reached_known _ _ _ _ pre.0 _ _ the-loop.invariant.3 (omega (arith, pre.2)) _ pre.1, omega (arith, pre.2, least.ensures), omega (arith, least.ensures))
-
-pub loop-o-smaller : goal.loop-o-smaller
-loop-o-smaller c =
-    let least = c.least-k in
-    let pre = c.requires in
-    omega (arith, least.ensures, pre.3)
 
 pub loop-o-preserved : goal.loop-o-preserved
 loop-o-preserved c =

@@ -5,12 +5,6 @@ use Rattle.gather.specs.InTurn.{in_turn_lem}
 use Rattle.gather.specs.AtOnce.{known_within, at_once}
 use Rattle.gather.proofs.pieces.from_image.Goals as goal
 
-pub xor_rest-requires : goal.xor_rest-requires
-xor_rest-requires c =
-    let pre = c.requires in
-    let seed = c.seed in
-    (pre.0, omega arith, omega (arith, pre.2, seed.auto.acc))
-
 pub returns-then-places-eq0 : goal.returns-then-places-eq0
 returns-then-places-eq0 c =
     let args = c.args in
