@@ -2,10 +2,12 @@
 
 #![tactic(auto)]
 
-ghost use Rattle.std.specs.Prelude.{◌≤◌, length};
+ghost use Rattle.std.specs.Prelude.{◌≤◌, length, OnOk};
+ghost use Rattle.std.specs.Io.KnownBytes.{Appends};
+ghost use Rattle.rowsum.specs.Listing.{printed_of};
 
 use std::io;
-use std::io::{Print, Read, Write};
+use std::io::{Read, Write};
 
 // Fills the room from its front until it is full or the input ends, and answers how many bytes it has. A read that fails counts as the
 // end of the input.
@@ -24,15 +26,17 @@ fn fill<R: Read>(from: &mut R, room: &mut [u8]) -> usize
 
 // Prints what `rowsum` makes of the input. The room is as long as the longest text (the law
 // `printed_whole`).
-fn print<P: Print>(to: &P, input: &[u8]) -> io::Result<()> {
+fn print<W: Write>(to: &mut W, input: &[u8]) -> io::Result<()>
+    ensures { OnOk result (Appends (W.contents to.old) (W.contents to.new) (printed_of input.now)) }
+{
     let mut out = [0u8; 133988];
     let n = rowsum::printed(input, &mut out);
-    io::writer(to).write_all(&out[..n])
+    to.write_all(&out[..n])
 }
 
 // One byte more is read than an image may have, so that a longer input is seen.
 fn main(rt: HostRuntime) -> io::Result<()> {
     let mut input = [0u8; 49153];
     let n = fill(&mut rt.stdin(), &mut input);
-    print(&rt, &input[..n])
+    print(&mut rt.stdout(), &input[..n])
 }
