@@ -44,10 +44,12 @@ loop-k-preserved c =
     let address = the-address in let at-loop = the-loop in (omega arith, least_more _ _ at-loop.invariant.1 (ne_eqb _ _ (λ q. if3.false (address.ensures.0 ∙ q))))
 
 pub entries-preserved : goal.entries-preserved
-entries-preserved c =
-    (search rules, λ a. hit _ _ a _ _ _ _ _ _ _ Clear (search rules) c.read-source.ensures.0 (search rules) c.loop-k.invariant.1 c.address-own.ensures.0 c.if-own-source.true
-    (c.entries.invariant.1 a)
-    (bad_clear _ _ _ _ _ _ (sym c.is_failed.ensures ∙ c.if-is_failed.false) c.if-blocks-source.false))
+entries-preserved c = (
+  search rules,
+  λ a. hit _ _ a _ _ _ _ _ _ _ Clear (search rules) c.read-source.ensures.0 (search rules) c.loop-k.invariant.1 c.address-own.ensures.0 c.if-own-source.true
+      (c.entries.invariant.1 a)
+      (bad_clear _ _ _ _ _ _ (sym c.is_failed.ensures ∙ c.if-is_failed.false) c.if-blocks-source.false),
+)
 
 pub returns-then-i-n : goal.returns-then-i-n
 returns-then-i-n c = sym (c.entries.invariant.1 _ ∙ bad_end _ _ _ _ _ _ _ c.if-i-n.true)
