@@ -15,7 +15,6 @@ use Rattle.sense.specs.declared.Answer.TheVariants.{Good, Busy, BadField}
 use Rattle.command.specs.declared.Command.{Command}
 use Rattle.command.specs.Command.{disable_of}
 use Rattle.meaning.specs.declared.Span.{Span}
-use Rattle.meaning.specs.declared.Act.{Act}
 use Rattle.meaning.specs.declared.Act.TheVariants.{Read, Write, XpWrite, XdRead, Retain, XdWriteRead}
 use Rattle.meaning.specs.declared.Seen.{Seen}
 use Rattle.meaning.specs.declared.Seen.TheVariants.{Dash, Cdb}

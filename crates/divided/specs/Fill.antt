@@ -1,6 +1,6 @@
 -- Bytes that are written over a list part by part, in any order: xs are all of them, from index at on. And images of which ranges are
 -- written so one after the other.
-use Rattle.std.specs.Prelude.{ℕ, ◌+◌, ◌-◌, ◌*◌, ◌≤◌, ◌<◌, ◌⊎◌, ◌≡◌, List, [], ◌∷◌, length, get_or}
+use Rattle.std.specs.Prelude.{ℕ, ◌+◌, ◌-◌, ◌*◌, ◌≤◌, ◌<◌, ◌≡◌, List, [], ◌∷◌, length, get_or}
 use Rattle.std.proofs.Common.{arith, ⊎_elim, sym, ap, subst, ◌∙◌, ext_get_or}
 use Rattle.octets.specs.Part.{part, length_part, get_d_part}
 use Rattle.octets.specs.Put.{put, get_or_put_before, get_or_put_after, get_or_put_in}

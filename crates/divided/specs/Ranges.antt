@@ -17,7 +17,6 @@ use Rattle.drives.specs.Lookup.{drive_inside}
 use Rattle.image.specs.Shelf.{Shelf}
 use Rattle.command.specs.declared.Op.TheVariants.{Rebuild}
 use Rattle.command.specs.declared.Source.{Source}
-use Rattle.callers.specs.Does.{blocks}
 use Rattle.callers.specs.Lists.{source}
 use Rattle.callers.specs.Operands.{operands}
 use Rattle.divided.specs.InParts.{Sent, ours, IsGood, Asks, medium_of, SameMedia, together, Adjoining, onward, Strung, StrungOf, Chain, JoinsByRanges}

@@ -1,5 +1,5 @@
 -- "this leaves the target's medium as one REBUILD over all the sources would"
-use Rattle.std.specs.Prelude.{ℕ, ◌+◌, ◌≤◌, cond, ◌≡◌, eqb, length}
+use Rattle.std.specs.Prelude.{ℕ, ◌≤◌, cond, ◌≡◌, eqb, length}
 use Rattle.std.proofs.Common.{arith, sym, ap₂, ◌∙◌}
 use Rattle.std.proofs.Math.Path.{ap}
 use Rattle.std.proofs.Math.Option.{some}

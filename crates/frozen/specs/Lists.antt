@@ -9,7 +9,7 @@ use Rattle.folds.specs.declared.Found.{Found}
 use Rattle.folds.specs.declared.Found.TheVariants.{At, Nothing}
 use Rattle.rules.specs.Rule.{Rule, rule, first, first_append}
 use Rattle.drives.specs.declared.Came.{Came}
-use Rattle.drives.specs.Table.{drive_of, failed}
+use Rattle.drives.specs.Table.{drive_of}
 use Rattle.sense.specs.declared.Answer.{Answer}
 use Rattle.sense.specs.Answers.{number_of}
 use Rattle.sense.specs.Sense.{sense_of, absent_sense, nested_sense}

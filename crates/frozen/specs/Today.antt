@@ -18,7 +18,6 @@ use Rattle.slots.specs.Record.{slot_of}
 use Rattle.slots.specs.Record as slots
 use Rattle.slots.specs.Change.{released}
 use Rattle.slots.specs.Find.{empty_slot}
-use Rattle.sense.specs.declared.Answer.{Answer}
 use Rattle.sense.specs.declared.Answer.TheVariants.{Good, WrongCount}
 use Rattle.sense.specs.declared.Outcome.{Outcome}
 use Rattle.sense.specs.Answers.{number_of}

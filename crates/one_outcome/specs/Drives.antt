@@ -2,7 +2,7 @@
 use Rattle.std.proofs.Common.{ap}
 use Rattle.std.specs.Prelude.{ℕ}
 use Rattle.drives.proofs as drives
-use Rattle.one_outcome.specs.Only.{Only, equation, bounded, from}
+use Rattle.one_outcome.specs.Only.{Only, equation, from}
 
 pub is_failed_once : Only drives.is_failed.Reads.Post (λ _ r _. r)
 is_failed_once = equation

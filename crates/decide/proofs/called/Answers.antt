@@ -1,7 +1,5 @@
 -- `decide::called` meets its contract.
 use mathlib.Core.Path.{sym, ◌∙◌}
-use borrow.Author.Tests.{not-true, not-false}
-use borrow.Author.Rules.{rules}
 use Rattle.image.specs.Shelf.{valid_long, valid_framed}
 use Rattle.decide.specs.Called.{called_bad, called_none, called_at}
 use Rattle.decide.proofs.called.Goals as goal

@@ -1,6 +1,5 @@
 -- `decide::decide` meets its contract.
 use mathlib.Core.Path.{sym, ◌∙◌}
-use borrow.Author.Rules.{rules}
 use Rattle.decide.specs.Called.{called_drive, called_refused}
 use Rattle.meaning.specs.declared.Decision.TheVariants.{Stop}
 use Rattle.meaning.specs.Checks.{decide_of}

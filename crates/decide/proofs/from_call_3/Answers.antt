@@ -1,6 +1,5 @@
 -- `decide::from_call_3` meets its contract.
 use mathlib.Core.Path.{◌∙◌}
-use borrow.Author.Rules.{rules}
 use Rattle.folds.specs.Tests.{tests}
 use Rattle.decide.specs.Stages.{from_call3}
 use Rattle.decide.specs.Joined.{call_3_on}

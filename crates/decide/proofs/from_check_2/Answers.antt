@@ -1,7 +1,6 @@
 -- `decide::from_check_2` meets its contract.
 use mathlib.Core.Path.{sym, ◌∙◌}
 use borrow.Author.Tests.{eq-eqb, ne_eqb}
-use borrow.Author.Rules.{rules}
 use Rattle.decide.specs.Joined.{check_2_failed, check_2_on}
 use Rattle.folds.specs.Tests.{tests}
 use Rattle.command.specs.Command.{size_of}

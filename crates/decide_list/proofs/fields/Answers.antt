@@ -1,7 +1,6 @@
 -- `decide_list::fields` meets its contract.
 use mathlib.Core.Path.{sym, ◌∙◌}
 use borrow.Author.Tests.{eq-eqb, ne_eqb}
-use borrow.Author.Rules.{rules}
 use Rattle.decide_list.specs.Laws.{fields_on}
 use Rattle.folds.specs.Tests.{tests}
 use Rattle.command.specs.Command.{list_sec_of}

@@ -1,6 +1,5 @@
 -- `decide_list::rebuild` meets its contract.
 use mathlib.Core.Path.{◌∙◌}
-use borrow.Author.Rules.{rules}
 use Rattle.decide_list.specs.Laws.{rebuild_on}
 use Rattle.decide_list.proofs.rebuild.Goals as goal
 

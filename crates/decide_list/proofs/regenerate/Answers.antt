@@ -1,5 +1,4 @@
 -- `decide_list::regenerate` meets its contract.
-use borrow.Author.Rules.{rules}
 use Rattle.folds.specs.Tests.{tests}
 use Rattle.decide_list.specs.Stages.{regenerate_of}
 use Rattle.decide_list.proofs.regenerate.Goals as goal

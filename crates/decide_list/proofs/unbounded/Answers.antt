@@ -1,7 +1,6 @@
 -- `decide_list::unbounded` meets its contract.
 use mathlib.Core.Path.{sym, ◌∙◌}
 use borrow.Author.Tests.{eq-eqb, ne_eqb}
-use borrow.Author.Rules.{rules}
 use Rattle.folds.specs.Tests.{tests}
 use Rattle.command.specs.Command.{int_of}
 use Rattle.decide_list.proofs.unbounded.Goals as goal

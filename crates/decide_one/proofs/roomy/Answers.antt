@@ -1,6 +1,5 @@
 -- `decide_one::roomy` meets its contract.
 use native.Mathlib.Omega.{arith}
-use borrow.Author.Rules.{rules}
 use Rattle.folds.specs.Tests.{tests}
 use Rattle.command.specs.Length.{bytes_small}
 use Rattle.decide_one.specs.Stages.{roomy_verdict}

@@ -1,5 +1,4 @@
 -- `decide_one::settle` meets its contract.
-use borrow.Author.Rules.{rules}
 use Rattle.decide_one.proofs.settle.Goals as goal
 
 pub returns-in-Refuse : goal.returns-in-Refuse

@@ -1,5 +1,4 @@
 -- `decide_two::check_10` meets its contract.
-use borrow.Author.Rules.{rules}
 use Rattle.folds.specs.Tests.{tests}
 use Rattle.decide_two.specs.Stages.{check10_of}
 use Rattle.decide_two.proofs.check_10.Goals as goal

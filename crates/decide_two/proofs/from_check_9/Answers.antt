@@ -1,6 +1,5 @@
 -- `decide_two::from_check_9` meets its contract.
 use mathlib.Core.Path.{sym, ◌∙◌}
-use borrow.Author.Rules.{rules}
 use Rattle.decide_two.specs.Laws.{check_9_slot, check_9_at, check_9_none}
 use Rattle.decide_two.proofs.from_check_9.Goals as goal
 

@@ -1,6 +1,5 @@
 -- `decide_two::limited` meets its contract.
 use native.Mathlib.Omega.{arith}
-use borrow.Author.Rules.{rules}
 use Rattle.folds.specs.Tests.{tests}
 use Rattle.command.specs.Length.{bytes_small}
 use Rattle.decide_two.specs.Stages.{limited_of}

@@ -1,7 +1,6 @@
 -- `decide_two::xdwrite` meets its contract.
 use mathlib.Core.Path.{refl, sym, ◌∙◌}
 use borrow.Author.Tests.{eq-eqb, ne_eqb}
-use borrow.Author.Rules.{rules}
 use Rattle.folds.specs.Tests.{tests}
 use Rattle.folds.specs.Least.{at_nothing}
 use Rattle.drives.specs.Lookup.{drive_inside}

@@ -1,17 +1,15 @@
 -- `drives::entries_ok` meets its contract.
-use Prim.Native.Nat.{ℕ, ◌≤◌, ◌-◌}
+use Prim.Native.Nat.{ℕ}
 use mathlib.Core.Bool.{◌&&◌}
-use mathlib.Core.Path.{◌≡◌, refl, sym, ap, ap₂, ◌∙◌}
+use mathlib.Core.Path.{refl, sym, ap, ap₂, ◌∙◌}
 use native.Mathlib.Nat.{not-suc-le-zero}
 use native.Mathlib.Omega.{arith}
 use lib.Dec.{leb}
-use lib.ListN.{length, get_or}
-use borrow.Author.Rules.{rules}
-use Rattle.octets.specs.New.{Begins, new_is, begins_more}
-use Rattle.folds.specs.Every.{every, every_joined}
-use Rattle.folds.specs.All.{all_below, all_none, all_turn, all_end}
-use Rattle.rules.specs.Must.{tests_of}
-use Rattle.drives.specs.Table.{address_of, entry_musts, table_ok}
+use lib.ListN.{get_or}
+use Rattle.octets.specs.New.{new_is, begins_more}
+use Rattle.folds.specs.Every.{every_joined}
+use Rattle.folds.specs.All.{all_none, all_turn, all_end}
+use Rattle.drives.specs.Table.{table_ok}
 use Rattle.drives.proofs.entries_ok.Goals as goal
 
 pub loop-i-init : goal.loop-i-init

@@ -1,13 +1,9 @@
 -- `drives::find_drive` meets its contract.
-use Prim.Native.Nat.{◌≤◌, ◌-◌}
-use mathlib.Core.Path.{◌≡◌, sym, ◌∙◌}
+use mathlib.Core.Path.{sym, ◌∙◌}
 use native.Mathlib.Omega.{arith}
-use lib.Dec.{eqb}
-use borrow.Author.Rules.{rules}
 use borrow.Author.Tests.{eq-eqb, ne_eqb}
-use Rattle.folds.specs.declared.Found.TheVariants.{Nothing}
-use Rattle.folds.specs.Least.{least_below, least_start, least_more, least_stop, least_done}
-use Rattle.drives.specs.Table.{address_of, drive_of}
+use Rattle.folds.specs.Least.{least_start, least_more, least_stop, least_done}
+use Rattle.drives.specs.Table.{drive_of}
 use Rattle.drives.proofs.find_drive.Goals as goal
 
 pub loop-i-init : goal.loop-i-init

@@ -1,13 +1,10 @@
 -- `drives::find_drive` meets its contract. The loop's invariant: none of the drives passed has the address.
 use Prim.Native.Nat.{◌≤◌, ◌-◌}
-use mathlib.Core.Path.{◌≡◌, sym, ◌∙◌}
-use native.Mathlib.Omega.{arith}
+use mathlib.Core.Path.{◌≡◌}
 use lib.Dec.{eqb}
-use borrow.Author.Rules.{rules}
-use borrow.Author.Tests.{eq-eqb, ne_eqb}
 use Rattle.folds.specs.declared.Found.TheVariants.{Nothing}
-use Rattle.folds.specs.Least.{least_below, least_start, least_more, least_stop, least_done}
-use Rattle.drives.specs.Table.{address_of, drive_of}
+use Rattle.folds.specs.Least.{least_below}
+use Rattle.drives.specs.Table.{address_of}
 use Rattle.drives.proofs.find_drive.Given as goal
 
 abbrev pub invariant-loop-i : goal.invariant-loop-i

@@ -2,7 +2,6 @@
 use mathlib.Core.Path.{ap, ◌∙◌}
 use mathlib.Core.List.{[], ◌∷◌}
 use Prim.Native.Nat.{ℕ}
-use borrow.Author.Rules.{rules}
 use Rattle.octets.specs.Put.{put, set_put}
 use Rattle.drives.specs.Table.{marked}
 use Rattle.drives.proofs.mark.Goals as goal

@@ -1,7 +1,6 @@
 -- `geometry::framed` meets its contract.
 use mathlib.Core.Path.{sym, ap, ◌∙◌}
-use borrow.Author.Tests.{not-true, not-false, lt-leb, le-leb, eq-eqb, ne_eqb}
-use borrow.Author.Rules.{rules}
+use borrow.Author.Tests.{lt-leb, le-leb, eq-eqb, ne_eqb}
 use Rattle.folds.specs.Every.{fails, every_of}
 use Rattle.geometry.specs.Header.{framed_ok, ranges_ok, offsets_ok, end_of}
 use Rattle.geometry.specs.Frame.{in_range_lem, placed}

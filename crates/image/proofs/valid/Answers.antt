@@ -1,7 +1,5 @@
 -- `image::valid` meets its contract.
 use mathlib.Core.Path.{sym, ap, subst, ◌∙◌}
-use borrow.Author.Tests.{not-true, not-false}
-use borrow.Author.Rules.{rules}
 use Rattle.folds.specs.Every.{every, fails}
 use Rattle.folds.specs.Tests.{cond_self}
 use Rattle.geometry.specs.Frame.{framed, framed_long, Framed}

@@ -1,7 +1,7 @@
 -- `list_entries::first_bad` meets its contract. The outer loop's invariant: the entries left decide; the inner one's: none of the drives passed has
 -- the entry's address.
 use mathlib.Core.Path.{◌≡◌, sym, ap, ◌∙◌}
-use Prim.Native.Nat.{ℕ, ◌≤◌, ◌<◌, ◌-◌, ◌+◌}
+use Prim.Native.Nat.{ℕ, ◌<◌, ◌-◌, ◌+◌}
 use mathlib.Core.List.{List}
 use Rattle.geometry.specs.declared.Geometry.{Geometry}
 use Rattle.command.specs.declared.Source.{Source}

@@ -1,19 +1,13 @@
 -- `list_entries::first_bad` meets its contract. The outer loop's invariant: the entries left decide; the inner one's: none of the drives passed has
 -- the entry's address.
-use mathlib.Core.Path.{◌≡◌, sym, ap, ◌∙◌}
-use Prim.Native.Nat.{◌≤◌, ◌-◌, ◌+◌}
-use native.Mathlib.Omega.{arith}
+use mathlib.Core.Path.{◌≡◌}
+use Prim.Native.Nat.{◌≤◌, ◌-◌}
 use lib.Dec.{eqb}
-use borrow.Author.Rules.{rules}
-use borrow.Author.Tests.{eq-eqb, ne_eqb}
-use Rattle.folds.specs.declared.Found.TheVariants.{At, Nothing}
-use Rattle.folds.specs.Least.{least_below, least_start, least_more, least_stop, least_done}
+use Rattle.folds.specs.declared.Found.TheVariants.{Nothing}
+use Rattle.folds.specs.Least.{least_below}
 use Rattle.drives.specs.declared.Came.{Came}
-use Rattle.drives.specs.Table.{address_of, drive_of}
-use Rattle.meaning.specs.declared.Fault.{Fault}
-use Rattle.meaning.specs.declared.Fault.TheVariants.{Clear, Absent, Failed, Beyond}
-use Rattle.meaning.specs.Sources.{drive_bad, or_next, first_bad}
-use Rattle.list_entries.specs.Turns.{all_left, bad_end, bad_at, bad_absent, bad_failed, bad_beyond, bad_clear}
+use Rattle.drives.specs.Table.{address_of}
+use Rattle.meaning.specs.Sources.{first_bad}
 use Rattle.list_entries.proofs.first_bad.Given as goal
 
 abbrev pub invariant-loop-k : goal.invariant-loop-k

@@ -1,5 +1,4 @@
 -- `list_entries::is_at` meets its contract.
-use borrow.Author.Rules.{rules}
 use Rattle.folds.specs.Tests.{tests}
 use Rattle.list_entries.proofs.is_at.Goals as goal
 

@@ -1,13 +1,8 @@
 -- `list_entries::own_entry` meets its contract.
-use mathlib.Core.Path.{◌≡◌, ◌∙◌}
-use Prim.Native.Nat.{◌≤◌, ◌-◌}
+use mathlib.Core.Path.{◌∙◌}
 use native.Mathlib.Omega.{arith}
-use borrow.Author.Rules.{rules}
-use Rattle.folds.specs.declared.Found.TheVariants.{Nothing}
-use Rattle.folds.specs.Least.{least_below, least_start, least_more, least_stop, least_done}
-use Rattle.drives.specs.Table.{source_drive}
-use Rattle.command.specs.Command.{source_of}
-use Rattle.meaning.specs.Sources.{is_at, own_entry}
+use Rattle.folds.specs.Least.{least_start, least_more, least_stop, least_done}
+use Rattle.meaning.specs.Sources.{own_entry}
 use Rattle.list_entries.specs.Turns.{own_is}
 use Rattle.list_entries.proofs.own_entry.Goals as goal
 

@@ -2,7 +2,6 @@
 use mathlib.Core.Path.{◌∙◌}
 use lib.ListN.{length}
 use Rattle.octets.specs.Part.{mid_part}
-use borrow.Author.Rules.{rules}
 use Rattle.octets.proofs.copy_from.Goals as goal
 
 pub returns : goal.returns

@@ -1,10 +1,8 @@
 -- `octets::fill_zero` meets its contract.
 use mathlib.Core.Path.{◌≡◌, refl, sym, ap, ◌∙◌}
-use mathlib.Core.List.{List}
-use Prim.Native.Nat.{ℕ, ◌≤◌, ◌-◌}
 use native.Mathlib.Numerals.{add-one}
 use native.Mathlib.Omega.{arith}
-use lib.ListN.{length, take, set, replicate, length-set, length-replicate, get_or-replicate}
+use lib.ListN.{length, take, set, length-set, length-replicate, get_or-replicate}
 use lib.Seq.{take_all}
 use Rattle.octets.specs.Put.{put, put_nil, put_whole}
 use Rattle.octets.specs.PutPut.{put_more}

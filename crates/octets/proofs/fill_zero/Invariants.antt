@@ -1,13 +1,9 @@
 -- `octets::fill_zero` meets its contract. The loop's invariant: the first i of as many zeros are written over dst's front.
-use mathlib.Core.Path.{◌≡◌, refl, sym, ap, ◌∙◌}
+use mathlib.Core.Path.{◌≡◌}
 use mathlib.Core.List.{List}
 use Prim.Native.Nat.{ℕ, ◌≤◌, ◌-◌}
-use native.Mathlib.Numerals.{add-one}
-use native.Mathlib.Omega.{arith}
-use lib.ListN.{length, take, set, replicate, length-set, length-replicate, get_or-replicate}
-use lib.Seq.{take_all}
-use Rattle.octets.specs.Put.{put, put_nil, put_whole}
-use Rattle.octets.specs.PutPut.{put_more}
+use lib.ListN.{length, take, replicate}
+use Rattle.octets.specs.Put.{put}
 use Rattle.octets.proofs.fill_zero.Given as goal
 
 abbrev pub zeros : List ℕ → List ℕ

@@ -1,7 +1,6 @@
 -- `octets::put_at` meets its contract.
 use mathlib.Core.Path.{ap, ◌∙◌}
 use lib.ListN.{length}
-use borrow.Author.Rules.{rules}
 use Rattle.octets.specs.Put.{put, put_back}
 use Rattle.octets.proofs.put_at.Goals as goal
 

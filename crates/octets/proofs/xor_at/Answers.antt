@@ -6,7 +6,6 @@ use lib.ListN.{length}
 use Rattle.octets.specs.Xor.{◌⊻◌}
 use Rattle.octets.specs.Part.{mid_part}
 use Rattle.octets.specs.Put.{put, put_back}
-use borrow.Author.Rules.{rules}
 use Rattle.octets.proofs.xor_at.Goals as goal
 
 pub returns : goal.returns

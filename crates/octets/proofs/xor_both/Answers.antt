@@ -3,7 +3,6 @@ use mathlib.Core.Path.{ap₂, ◌∙◌}
 use lib.ListN.{length}
 use Rattle.octets.specs.Xor.{◌⊻◌}
 use Rattle.octets.specs.Part.{mid_part}
-use borrow.Author.Rules.{rules}
 use Rattle.octets.proofs.xor_both.Goals as goal
 
 pub returns : goal.returns

@@ -1,9 +1,8 @@
 -- `octets::xor_eight_over` meets its contract. The loop's invariant is that of `xor_over`, with the XOR of the eight for that of the two.
-use mathlib.Core.Path.{◌≡◌, refl, sym, ap, ◌∙◌}
-use Prim.Native.Nat.{◌≤◌, ◌-◌}
+use mathlib.Core.Path.{refl, sym, ap, ◌∙◌}
 use native.Mathlib.Numerals.{add-one}
 use native.Mathlib.Omega.{arith}
-use lib.ListN.{length, take, length-set}
+use lib.ListN.{length, length-set}
 use lib.Seq.{take_all}
 use Rattle.octets.specs.Put.{put, put_nil, put_whole}
 use Rattle.octets.specs.PutPut.{put_more}

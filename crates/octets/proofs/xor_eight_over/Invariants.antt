@@ -1,14 +1,10 @@
 -- `octets::xor_eight_over` meets its contract. The loop's invariant is that of `xor_over`, with the XOR of the eight for that of the two.
-use mathlib.Core.Path.{◌≡◌, refl, sym, ap, ◌∙◌}
+use mathlib.Core.Path.{◌≡◌}
 use Prim.Native.Nat.{◌≤◌, ◌-◌}
-use native.Mathlib.Numerals.{add-one}
-use native.Mathlib.Omega.{arith}
-use lib.ListN.{length, take, length-set}
-use lib.Seq.{take_all}
-use Rattle.octets.specs.Put.{put, put_nil, put_whole}
-use Rattle.octets.specs.PutPut.{put_more}
+use lib.ListN.{length, take}
+use Rattle.octets.specs.Put.{put}
 use Rattle.octets.specs.Operands.{xor_all}
-use Rattle.octets.specs.Eight.{eight_parts, eight_byte, eight_long}
+use Rattle.octets.specs.Eight.{eight_parts}
 use Rattle.octets.proofs.xor_eight_over.Given as goal
 
 abbrev pub invariant-loop-i : goal.invariant-loop-i

@@ -3,7 +3,6 @@ use mathlib.Core.Path.{ap, ◌∙◌}
 use lib.ListN.{length}
 use Rattle.octets.specs.Xor.{◌⊻◌}
 use Rattle.octets.specs.Part.{mid_part}
-use borrow.Author.Rules.{rules}
 use Rattle.octets.proofs.xor_from.Goals as goal
 
 pub returns : goal.returns

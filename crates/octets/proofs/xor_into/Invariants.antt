@@ -1,11 +1,8 @@
 -- `octets::xor_into` meets its contract. The loop's invariant: dst is what it was, XORed with the first i bytes of src.
-use mathlib.Core.Path.{◌≡◌, refl, sym, ap, ◌∙◌}
+use mathlib.Core.Path.{◌≡◌}
 use Prim.Native.Nat.{◌≤◌, ◌-◌}
-use native.Mathlib.Numerals.{add-one}
-use native.Mathlib.Omega.{arith}
-use lib.ListN.{length, take, length-set}
-use lib.Seq.{take_all}
-use Rattle.octets.specs.Xor.{◌⊻◌, xor_nil, xor_more}
+use lib.ListN.{length, take}
+use Rattle.octets.specs.Xor.{◌⊻◌}
 use Rattle.octets.proofs.xor_into.Given as goal
 
 abbrev pub invariant-loop-i : goal.invariant-loop-i

@@ -3,7 +3,6 @@ use mathlib.Core.Path.{◌∙◌}
 use Prim.Native.Nat.{◌+◌}
 use native.Mathlib.Omega.{arith}
 use lib.ListN.{length}
-use borrow.Author.Rules.{rules}
 use Rattle.passes.specs.Steps.{one_part, eight_parts_lem, first_inside}
 use Rattle.passes.proofs.xor_first.Goals as goal
 

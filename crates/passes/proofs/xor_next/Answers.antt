@@ -3,7 +3,6 @@ use mathlib.Core.Path.{ap, ◌∙◌}
 use Prim.Native.Nat.{◌+◌}
 use native.Mathlib.Omega.{arith}
 use lib.ListN.{length}
-use borrow.Author.Rules.{rules}
 use Rattle.octets.specs.Xor.{◌⊻◌}
 use Rattle.passes.specs.Steps.{one_part, four_parts, next_inside}
 use Rattle.passes.proofs.xor_next.Goals as goal

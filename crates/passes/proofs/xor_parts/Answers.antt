@@ -1,10 +1,6 @@
 -- `passes::xor_parts` meets its contract.
-use mathlib.Core.Path.{◌≡◌, refl}
-use Prim.Native.Nat.{◌≤◌, ◌-◌}
+use mathlib.Core.Path.{refl}
 use native.Mathlib.Omega.{arith}
-use lib.ListN.{length}
-use Rattle.octets.specs.Operands.{xor_all}
-use Rattle.passes.specs.Parts.{parts_from}
 use Rattle.passes.specs.Steps.{parts_more, parts_done}
 use Rattle.passes.proofs.xor_parts.Goals as goal
 

@@ -1,11 +1,9 @@
 -- `passes::xor_parts` meets its contract.
-use mathlib.Core.Path.{◌≡◌, refl}
+use mathlib.Core.Path.{◌≡◌}
 use Prim.Native.Nat.{◌≤◌, ◌-◌}
-use native.Mathlib.Omega.{arith}
 use lib.ListN.{length}
 use Rattle.octets.specs.Operands.{xor_all}
 use Rattle.passes.specs.Parts.{parts_from}
-use Rattle.passes.specs.Steps.{parts_more, parts_done}
 use Rattle.passes.proofs.xor_parts.Given as goal
 
 abbrev pub invariant-loop-i : goal.invariant-loop-i

@@ -1,7 +1,6 @@
 -- `sense::front` meets its contract.
 use mathlib.Core.Path.{ap, ◌∙◌}
 use lib.ListN.{replicate}
-use borrow.Author.Rules.{rules}
 use Rattle.octets.specs.Put.{put}
 use Rattle.octets.specs.Number.{to_be}
 use Rattle.sense.proofs.front.Goals as goal

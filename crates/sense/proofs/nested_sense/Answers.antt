@@ -1,5 +1,4 @@
 -- `sense::nested_sense` meets its contract.
-use borrow.Author.Rules.{rules}
 use Rattle.octets.specs.Put.{put}
 use Rattle.octets.specs.Number.{to_be}
 use Rattle.sense.specs.Sense.{nested_sense}

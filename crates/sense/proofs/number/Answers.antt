@@ -1,5 +1,4 @@
 -- `sense::number` meets its contract.
-use borrow.Author.Rules.{rules}
 use Rattle.sense.specs.Answers.{number_of}
 use Rattle.sense.proofs.Told.{told}
 use Rattle.sense.proofs.number.Goals as goal

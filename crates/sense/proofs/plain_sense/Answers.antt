@@ -1,5 +1,4 @@
 -- `sense::plain_sense` meets its contract.
-use borrow.Author.Rules.{rules}
 use Rattle.sense.specs.Sense.{plain_sense}
 use Rattle.sense.proofs.plain_sense.Goals as goal
 

@@ -1,5 +1,4 @@
 -- `sense::sense_of` meets its contract.
-use borrow.Author.Rules.{rules}
 use Rattle.sense.specs.Sense.{sense_of}
 use Rattle.sense.proofs.Told.{told}
 use Rattle.sense.proofs.sense_of.Goals as goal

@@ -3,7 +3,6 @@ use mathlib.Core.Path.{sym, ◌∙◌}
 use native.Mathlib.Omega.{arith}
 use Rattle.decide.specs.Called.{called_drive}
 use Rattle.shelf.specs.Opened.{mark_refused, mark_state, mark_done}
-use borrow.Author.Rules.{rules}
 use Rattle.shelf.proofs.mark.Goals as goal
 
 pub returns-then-state-gt1 : goal.returns-then-state-gt1

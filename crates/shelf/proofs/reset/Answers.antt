@@ -2,7 +2,6 @@
 use mathlib.Core.Path.{sym, ◌∙◌}
 use Rattle.decide.specs.Called.{called_drive}
 use Rattle.shelf.specs.Opened.{reset_refused, reset_done}
-use borrow.Author.Rules.{rules}
 use Rattle.shelf.proofs.reset.Goals as goal
 
 pub drop_drive-requires : goal.drop_drive-requires

@@ -1,6 +1,5 @@
 -- `shelf::step` meets its contract.
 use mathlib.Core.Path.{sym, ◌∙◌}
-use borrow.Author.Rules.{rules}
 use Rattle.geometry.specs.Frame.{framed_long}
 use Rattle.grants.specs.Granted.{granted}
 use Rattle.meaning.specs.Stepped.{stopped, went}

@@ -1,5 +1,4 @@
 -- `shelf_c::shelf_mark` meets its contract.
-use borrow.Author.Rules.{rules}
 use Rattle.shelf_c.specs.Interface.{mark_numbered}
 use Rattle.shelf_c.proofs.shelf_mark.Goals as goal
 

@@ -1,5 +1,4 @@
 -- `shelf_c::shelf_reset` meets its contract.
-use borrow.Author.Rules.{rules}
 use Rattle.shelf_c.specs.Interface.{reset_numbered}
 use Rattle.shelf_c.proofs.shelf_reset.Goals as goal
 

@@ -1,7 +1,6 @@
 -- `shelf_c::shelf_step` meets its contract.
 use mathlib.Core.Path.{refl}
 use native.Mathlib.Omega.{arith}
-use borrow.Author.Rules.{rules}
 use Rattle.shelf_c.specs.Interface.{too_short, long_enough, told_long, fits_count}
 use Rattle.shelf_c.proofs.shelf_step.Goals as goal
 

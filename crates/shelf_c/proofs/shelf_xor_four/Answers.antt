@@ -1,16 +1,12 @@
 -- `shelf_c::shelf_xor_four` meets its contract: the equation of the leaf with four operands, over the front that all have.
-use mathlib.Core.Path.{◌≡◌, sym, ap, ◌∙◌}
+use mathlib.Core.Path.{◌≡◌, ap, ◌∙◌}
 use mathlib.Core.List.{List, [], ◌∷◌}
-use Prim.Native.Nat.{ℕ, ◌≤◌, min}
-use native.Mathlib.Omega.{arith}
+use Prim.Native.Nat.{ℕ, min}
 use lib.ListN.{length}
-use lib.Seq.{length-take-le}
-use Rattle.folds.specs.Each.{EachIs}
 use Rattle.octets.specs.Part.{part}
 use Rattle.octets.specs.Xor.{◌⊻◌}
 use Rattle.octets.specs.Operands.{xor_all, parts_of}
-use borrow.Author.Rules.{rules}
-use Rattle.shelf_c.specs.Blocks.{common, common_le, common_each, front_all}
+use Rattle.shelf_c.specs.Blocks.{common, front_all}
 use Rattle.shelf_c.proofs.shelf_xor_four.Goals as goal
 
 -- the tests leave as many bytes as all have

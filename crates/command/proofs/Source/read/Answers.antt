@@ -1,6 +1,5 @@
 -- `command::Source::read` meets its contract.
 use native.Mathlib.Omega.{arith}
-use borrow.Author.Rules.{rules}
 use Rattle.command.specs.Command.{source_of}
 use Rattle.command.proofs.Source.read.Goals as goal
 

@@ -1,6 +1,5 @@
 -- `decide::each::each` meets its contract.
 use mathlib.Core.Path.{◌∙◌}
-use borrow.Author.Rules.{rules}
 use Rattle.decide.specs.Joined.{flags_bad, flags_on}
 use Rattle.decide.proofs.each.each.Goals as goal
 

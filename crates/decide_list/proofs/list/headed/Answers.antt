@@ -1,6 +1,5 @@
 -- `decide_list::list::headed` meets its contract.
 use mathlib.Core.Path.{◌∙◌}
-use borrow.Author.Rules.{rules}
 use Rattle.folds.specs.Tests.{tests}
 use Rattle.decide_list.specs.Stages.{headed_of}
 use Rattle.decide_list.proofs.list.headed.Goals as goal

@@ -1,6 +1,5 @@
 -- `decide_list::list::listed` meets its contract.
 use mathlib.Core.Path.{◌∙◌}
-use borrow.Author.Rules.{rules}
 use Rattle.folds.specs.Tests.{tests}
 use Rattle.decide_list.specs.Stages.{list_sized_of}
 use Rattle.decide_list.specs.Laws.{listed_on}

@@ -1,6 +1,5 @@
 -- `decide_list::list::owned` meets its contract.
 use mathlib.Core.Path.{sym, ◌∙◌}
-use borrow.Author.Rules.{rules}
 use Rattle.decide_list.specs.Laws.{owned_at, owned_empty, owned_on}
 use Rattle.decide_list.proofs.list.owned.Goals as goal
 

@@ -1,6 +1,5 @@
 -- `decide_list::sources::placed` meets its contract.
 use mathlib.Core.Path.{◌∙◌}
-use borrow.Author.Rules.{rules}
 use Rattle.folds.specs.Tests.{tests}
 use Rattle.decide_list.specs.Stages.{placed_of}
 use Rattle.decide_list.specs.Laws.{placed_rebuild}

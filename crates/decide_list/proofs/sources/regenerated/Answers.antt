@@ -1,6 +1,5 @@
 -- `decide_list::sources::regenerated` meets its contract.
 use mathlib.Core.Path.{sym, ◌∙◌}
-use borrow.Author.Rules.{rules}
 use Rattle.decide_list.specs.Laws.{regenerated_at, regenerated_none}
 use Rattle.decide_list.proofs.sources.regenerated.Goals as goal
 

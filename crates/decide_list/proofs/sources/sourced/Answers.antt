@@ -1,6 +1,5 @@
 -- `decide_list::sources::sourced` meets its contract.
 use mathlib.Core.Path.{sym, ◌∙◌}
-use borrow.Author.Rules.{rules}
 use Rattle.decide_list.specs.Stages.{fault_or}
 use Rattle.decide_list.proofs.sources.sourced.Goals as goal
 

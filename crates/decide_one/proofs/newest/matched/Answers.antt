@@ -1,6 +1,5 @@
 -- `decide_one::newest::matched` meets its contract.
 use mathlib.Core.Path.{sym, ◌∙◌}
-use borrow.Author.Rules.{rules}
 use Rattle.results.specs.Best.{newest_at}
 use Rattle.decide_one.specs.Laws.{matched_at, matched_other, matched_none}
 use Rattle.decide_one.proofs.newest.matched.Goals as goal

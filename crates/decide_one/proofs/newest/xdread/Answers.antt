@@ -1,5 +1,4 @@
 -- `decide_one::newest::xdread` meets its contract.
-use borrow.Author.Rules.{rules}
 use Rattle.folds.specs.Tests.{tests}
 use Rattle.decide_one.specs.Stages.{xdread_of}
 use Rattle.decide_one.proofs.newest.xdread.Goals as goal

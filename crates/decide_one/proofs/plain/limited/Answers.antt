@@ -1,6 +1,5 @@
 -- `decide_one::plain::limited` meets its contract.
 use mathlib.Core.Path.{◌∙◌}
-use borrow.Author.Rules.{rules}
 use Rattle.folds.specs.Tests.{tests}
 use Rattle.decide_one.specs.Stages.{limited_verdict}
 use Rattle.decide_one.specs.Laws.{limited_on}

@@ -1,5 +1,4 @@
 -- `decide_one::plain::plain` meets its contract.
-use borrow.Author.Rules.{rules}
 use Rattle.folds.specs.Tests.{tests}
 use Rattle.decide_one.specs.Stages.{plain_verdict}
 use Rattle.decide_one.proofs.plain.plain.Goals as goal

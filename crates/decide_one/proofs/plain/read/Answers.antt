@@ -1,6 +1,5 @@
 -- `decide_one::plain::read` meets its contract.
 use mathlib.Core.Path.{◌∙◌}
-use borrow.Author.Rules.{rules}
 use Rattle.decide_one.specs.Laws.{read_on}
 use Rattle.decide_one.proofs.plain.read.Goals as goal
 

@@ -1,7 +1,6 @@
 -- `decide_one::plain::xpwrite` meets its contract.
 use mathlib.Core.Path.{◌∙◌}
 use native.Mathlib.Omega.{arith}
-use borrow.Author.Rules.{rules}
 use Rattle.command.specs.Length.{bytes_small}
 use Rattle.decide_one.specs.Laws.{xpwrite_on}
 use Rattle.decide_one.proofs.plain.xpwrite.Goals as goal

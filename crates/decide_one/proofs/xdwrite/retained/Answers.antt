@@ -1,6 +1,5 @@
 -- `decide_one::xdwrite::retained` meets its contract.
 use mathlib.Core.Path.{sym, ◌∙◌}
-use borrow.Author.Rules.{rules}
 use Rattle.decide_one.specs.Laws.{retains_at, retains_busy}
 use Rattle.decide_one.proofs.xdwrite.retained.Goals as goal
 

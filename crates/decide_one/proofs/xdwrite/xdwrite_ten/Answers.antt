@@ -1,7 +1,6 @@
 -- `decide_one::xdwrite::xdwrite_ten` meets its contract.
 use mathlib.Core.Path.{◌∙◌}
 use native.Mathlib.Omega.{arith}
-use borrow.Author.Rules.{rules}
 use Rattle.command.specs.Length.{bytes_small}
 use Rattle.decide_one.specs.Laws.{xdwrite_ten_on, xdwrite_ten_stop}
 use Rattle.decide_one.proofs.xdwrite.xdwrite_ten.Goals as goal

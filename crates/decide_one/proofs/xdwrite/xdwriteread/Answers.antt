@@ -1,7 +1,6 @@
 -- `decide_one::xdwrite::xdwriteread` meets its contract.
 use mathlib.Core.Path.{◌∙◌}
 use native.Mathlib.Omega.{arith}
-use borrow.Author.Rules.{rules}
 use Rattle.command.specs.Length.{bytes_small}
 use Rattle.decide_one.specs.Laws.{xdwriteread_on}
 use Rattle.decide_one.proofs.xdwrite.xdwriteread.Goals as goal

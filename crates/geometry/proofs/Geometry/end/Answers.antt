@@ -1,6 +1,5 @@
 -- `geometry::Geometry::end` meets its contract.
 use native.Mathlib.Omega.{arith}
-use borrow.Author.Rules.{rules}
 use Rattle.geometry.specs.Frame.{blocks_small, media_small}
 use Rattle.geometry.proofs.Geometry.end.Goals as goal
 

@@ -1,6 +1,5 @@
 -- `geometry::Geometry::offsets_ok` meets its contract.
 use native.Mathlib.Omega.{arith}
-use borrow.Author.Rules.{rules}
 use Rattle.folds.specs.Every.{every_joined}
 use Rattle.geometry.specs.Frame.{slot_small, slots_small}
 use Rattle.geometry.proofs.Geometry.offsets_ok.Goals as goal

@@ -1,10 +1,7 @@
 -- `octets::new::keep_new` meets its contract.
-use Prim.Native.Nat.{◌≤◌, ◌-◌}
-use mathlib.Core.Path.{◌≡◌, sym, refl}
+use mathlib.Core.Path.{sym, refl}
 use native.Mathlib.Omega.{arith}
-use borrow.Author.Rules.{rules}
 use Rattle.folds.specs.All.{all_none, all_turn, all_end}
-use Rattle.octets.specs.New.{new_to}
 use Rattle.octets.proofs.new.keep_new.Goals as goal
 
 pub loop-i-init : goal.loop-i-init

@@ -1,12 +1,12 @@
 -- `octets::number::number` meets its contract.
 use mathlib.Core.Path.{◌≡◌, refl}
-use Prim.Native.Nat.{◌≤◌, ◌-◌, ◌<◌, ◌^◌}
+use Prim.Native.Nat.{◌≤◌, ◌^◌}
 use native.Mathlib.Omega.{arith}
 use native.Mathlib.Nat.{pow-le-pow_right, pow-suc}
 use native.Mathlib.Numerals.{add-one}
 use lib.Dec.{lit<}
 use Rattle.octets.specs.Part.{part, part_snoc}
-use Rattle.octets.specs.Number.{be, num, num_snoc}
+use Rattle.octets.specs.Number.{num, num_snoc}
 use Rattle.octets.proofs.number.number.Goals as goal
 
 pub loop-i-init : goal.loop-i-init

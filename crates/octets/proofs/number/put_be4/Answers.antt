@@ -2,7 +2,6 @@
 use mathlib.Core.Path.{ap, ◌∙◌}
 use Rattle.octets.specs.Put.{put}
 use Rattle.octets.specs.Four.{four_bytes}
-use borrow.Author.Rules.{rules}
 use Rattle.octets.proofs.number.put_be4.Goals as goal
 
 pub returns : goal.returns

@@ -1,10 +1,6 @@
 -- `slots::change::drop_drive` meets its contract.
-use mathlib.Core.Path.{◌≡◌, ◌∙◌}
-use Prim.Native.Nat.{◌≤◌, ◌-◌}
+use mathlib.Core.Path.{◌∙◌}
 use native.Mathlib.Omega.{arith}
-use lib.ListN.{length}
-use borrow.Author.Rules.{rules}
-use Rattle.slots.specs.Change.{dropped_to}
 use Rattle.slots.specs.Turns.{dropped_none, dropped_more, dropped_done}
 use Rattle.slots.proofs.change.drop_drive.Goals as goal
 

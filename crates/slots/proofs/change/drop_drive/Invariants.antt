@@ -1,11 +1,8 @@
 -- `slots::change::drop_drive` meets its contract.
-use mathlib.Core.Path.{◌≡◌, ◌∙◌}
+use mathlib.Core.Path.{◌≡◌}
 use Prim.Native.Nat.{◌≤◌, ◌-◌}
-use native.Mathlib.Omega.{arith}
 use lib.ListN.{length}
-use borrow.Author.Rules.{rules}
 use Rattle.slots.specs.Change.{dropped_to}
-use Rattle.slots.specs.Turns.{dropped_none, dropped_more, dropped_done}
 use Rattle.slots.proofs.change.drop_drive.Given as goal
 
 abbrev pub invariant-loop-i : goal.invariant-loop-i

@@ -1,5 +1,5 @@
 -- `slots::change::drop_one` meets its contract. Its facts are named, not sought: a search reads every place of the code.
-use mathlib.Core.Path.{refl, ◌∙◌}
+use mathlib.Core.Path.{◌∙◌}
 use Rattle.slots.specs.Turns.{drop_hit, drop_miss}
 use Rattle.slots.proofs.change.drop_one.Goals as goal
 

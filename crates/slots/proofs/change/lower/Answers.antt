@@ -1,10 +1,6 @@
 -- `slots::change::lower` meets its contract.
-use mathlib.Core.Path.{◌≡◌, ◌∙◌}
-use Prim.Native.Nat.{◌≤◌, ◌-◌}
+use mathlib.Core.Path.{◌∙◌}
 use native.Mathlib.Omega.{arith}
-use lib.ListN.{length}
-use borrow.Author.Rules.{rules}
-use Rattle.slots.specs.Change.{lowered}
 use Rattle.slots.specs.Turns.{lowered_none, lowered_more, lowered_done}
 use Rattle.slots.proofs.change.lower.Goals as goal
 

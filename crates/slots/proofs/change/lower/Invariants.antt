@@ -1,11 +1,8 @@
 -- `slots::change::lower` meets its contract.
-use mathlib.Core.Path.{◌≡◌, ◌∙◌}
+use mathlib.Core.Path.{◌≡◌}
 use Prim.Native.Nat.{◌≤◌, ◌-◌}
-use native.Mathlib.Omega.{arith}
 use lib.ListN.{length}
-use borrow.Author.Rules.{rules}
 use Rattle.slots.specs.Change.{lowered}
-use Rattle.slots.specs.Turns.{lowered_none, lowered_more, lowered_done}
 use Rattle.slots.proofs.change.lower.Given as goal
 
 abbrev pub invariant-loop-i : goal.invariant-loop-i

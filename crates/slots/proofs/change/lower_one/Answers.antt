@@ -1,5 +1,5 @@
 -- `slots::change::lower_one` meets its contract. Its facts are named, not sought: a search reads every place of the code.
-use mathlib.Core.Path.{refl, ◌∙◌}
+use mathlib.Core.Path.{◌∙◌}
 use Prim.Native.Nat.{zero-le}
 use native.Mathlib.Nat.{lt_of_le_of_lt}
 use Rattle.slots.specs.RecordLaws.{rank_room}

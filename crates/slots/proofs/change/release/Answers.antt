@@ -1,6 +1,5 @@
 -- `slots::change::release` meets its contract. Its facts are named, not sought: a search reads every place of the code.
 use mathlib.Core.Path.{◌∙◌}
-use borrow.Author.Rules.{rules}
 use Rattle.geometry.specs.Frame.{framed_same}
 use Rattle.slots.specs.RecordLaws.{record_room, rank_room}
 use Rattle.slots.specs.Turns.{released_by}

@@ -1,6 +1,5 @@
 -- `slots::change::write_record` meets its contract.
 use mathlib.Core.Path.{ap, ◌∙◌}
-use borrow.Author.Rules.{rules}
 use Rattle.octets.specs.Put.{put}
 use Rattle.slots.specs.RecordLaws.{stored_bytes}
 use Rattle.slots.proofs.change.write_record.Goals as goal

@@ -1,14 +1,10 @@
 -- `slots::find::empty_slot` meets its contract. The loop's invariant: the slots passed are used.
-use mathlib.Core.Path.{◌≡◌, sym, ap, ◌∙◌}
-use mathlib.Core.Bool.{Bool, not}
+use mathlib.Core.Path.{◌≡◌}
+use mathlib.Core.Bool.{not}
 use Prim.Native.Nat.{◌≤◌, ◌-◌}
-use borrow.Author.Rules.{rules}
-use borrow.Author.Tests.{eq-eqb, ne_eqb}
 use Rattle.folds.specs.declared.Found.TheVariants.{Nothing}
-use Rattle.folds.specs.Least.{least_below, least_start, least_more, least_stop, least_done}
-use Rattle.slots.specs.declared.Slot.{Slot}
+use Rattle.folds.specs.Least.{least_below}
 use Rattle.slots.specs.Record.{slot_of, is_used}
-use Rattle.slots.specs.Find.{empty_slot}
 use Rattle.slots.proofs.find.empty_slot.Given as goal
 
 abbrev pub invariant-loop-i : goal.invariant-loop-i

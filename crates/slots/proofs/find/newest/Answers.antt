@@ -1,8 +1,6 @@
 -- `slots::find::newest` meets its contract.
-use mathlib.Core.Path.{◌≡◌, ◌∙◌}
-use Prim.Native.Nat.{◌≤◌, ◌-◌}
+use mathlib.Core.Path.{◌∙◌}
 use borrow.Author.Rules.{rules}
-use Rattle.slots.specs.Find.{best_of}
 use Rattle.slots.specs.Turns.{best_none, best_more, best_done}
 use Rattle.slots.proofs.find.newest.Goals as goal
 

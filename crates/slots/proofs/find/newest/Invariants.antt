@@ -1,9 +1,7 @@
 -- `slots::find::newest` meets its contract.
-use mathlib.Core.Path.{◌≡◌, ◌∙◌}
+use mathlib.Core.Path.{◌≡◌}
 use Prim.Native.Nat.{◌≤◌, ◌-◌}
-use borrow.Author.Rules.{rules}
 use Rattle.slots.specs.Find.{best_of}
-use Rattle.slots.specs.Turns.{best_none, best_more, best_done}
 use Rattle.slots.proofs.find.newest.Given as goal
 
 abbrev pub invariant-loop-i : goal.invariant-loop-i

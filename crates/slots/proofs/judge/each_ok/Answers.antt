@@ -1,11 +1,9 @@
 -- `slots::judge::each_ok` meets its contract.
-use Prim.Native.Nat.{ℕ, ◌≤◌, ◌-◌}
-use mathlib.Core.Path.{◌≡◌, refl, sym, ap, ap₂, ◌∙◌}
+use Prim.Native.Nat.{ℕ}
+use mathlib.Core.Path.{refl, sym, ap, ap₂, ◌∙◌}
 use native.Mathlib.Nat.{not-suc-le-zero}
 use native.Mathlib.Omega.{arith}
-use lib.ListN.{length}
-use borrow.Author.Rules.{rules}
-use Rattle.octets.specs.New.{Begins, new_is, begins_more}
+use Rattle.octets.specs.New.{new_is, begins_more}
 use Rattle.folds.specs.All.{all_below, all_none, all_turn, all_end}
 use Rattle.slots.specs.Record.{slot_of}
 use Rattle.slots.specs.Slots.{slot_ok, rank_in, new_rank, slots_ok}

@@ -1,14 +1,11 @@
 -- `slots::judge::each_ok` meets its contract. The loop's invariant: ok says whether the slots passed are right, and their ranks are kept.
-use Prim.Native.Nat.{ℕ, ◌≤◌, ◌-◌}
-use mathlib.Core.Path.{◌≡◌, refl, sym, ap, ap₂, ◌∙◌}
-use native.Mathlib.Nat.{not-suc-le-zero}
-use native.Mathlib.Omega.{arith}
+use Prim.Native.Nat.{◌≤◌, ◌-◌}
+use mathlib.Core.Path.{◌≡◌}
 use lib.ListN.{length}
-use borrow.Author.Rules.{rules}
-use Rattle.octets.specs.New.{Begins, new_is, begins_more}
-use Rattle.folds.specs.All.{all_below, all_none, all_turn, all_end}
+use Rattle.octets.specs.New.{Begins}
+use Rattle.folds.specs.All.{all_below}
 use Rattle.slots.specs.Record.{slot_of}
-use Rattle.slots.specs.Slots.{slot_ok, rank_in, new_rank, slots_ok}
+use Rattle.slots.specs.Slots.{slot_ok, rank_in, new_rank}
 use Rattle.slots.proofs.judge.each_ok.Given as goal
 
 abbrev pub invariant-loop-i : goal.invariant-loop-i

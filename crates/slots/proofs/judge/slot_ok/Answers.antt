@@ -1,5 +1,4 @@
 -- `slots::judge::slot_ok` meets its contract.
-use borrow.Author.Rules.{rules}
 use Rattle.folds.specs.Tests.{tests}
 use Rattle.slots.proofs.judge.slot_ok.Goals as goal
 

@@ -1,10 +1,9 @@
 -- `slots::judge::used_count` meets its contract.
-use mathlib.Core.Path.{◌≡◌, sym, ap}
-use Prim.Native.Nat.{◌≤◌, ◌-◌}
+use mathlib.Core.Path.{sym, ap}
 use native.Mathlib.Omega.{arith}
 use borrow.Author.Rules.{rules}
-use Rattle.folds.specs.Count.{count_below, count_none, count_turn, count_done}
-use Rattle.slots.specs.Record.{slot_of, is_used}
+use Rattle.folds.specs.Count.{count_none, count_turn, count_done}
+use Rattle.slots.specs.Record.{is_used}
 use Rattle.slots.proofs.judge.used_count.Goals as goal
 
 pub loop-i-init : goal.loop-i-init

@@ -1,9 +1,7 @@
 -- `slots::judge::used_count` meets its contract. The loop's invariant: k is the count of the slots passed.
-use mathlib.Core.Path.{◌≡◌, sym, ap}
+use mathlib.Core.Path.{◌≡◌}
 use Prim.Native.Nat.{◌≤◌, ◌-◌}
-use native.Mathlib.Omega.{arith}
-use borrow.Author.Rules.{rules}
-use Rattle.folds.specs.Count.{count_below, count_none, count_turn, count_done}
+use Rattle.folds.specs.Count.{count_below}
 use Rattle.slots.specs.Record.{slot_of, is_used}
 use Rattle.slots.proofs.judge.used_count.Given as goal
 
