@@ -34,9 +34,9 @@ fn print<W: Write>(to: &mut W, input: &[u8]) -> io::Result<()>
     to.write_all(&out[..n])
 }
 
-// One byte more is read than an image may have, so that a longer input is seen.
-fn main(rt: HostRuntime) -> io::Result<()> {
+// One byte more is read than an image may have, so that a longer input is seen. Where the text cannot be written, what was printed tells.
+fn main(rt: HostRuntime) {
     let mut input = [0u8; 49153];
     let n = fill(&mut rt.stdin(), &mut input);
-    print(&mut rt.stdout(), &input[..n])
+    let _ = print(&mut rt.stdout(), &input[..n]);
 }
