@@ -2,7 +2,7 @@
 use mathlib.Core.Path.{sym, ◌∙◌}
 use borrow.Author.Tests.{not-true, not-false}
 use borrow.Author.Rules.{rules}
-use Rattle.image.specs.Shelf.{valid_long, valid_framed}
+use Rattle.image.proofs.Shelf.{valid_long, valid_framed}
 use Rattle.decide.specs.Called.{called_bad, called_none, called_at}
 use Rattle.decide.proofs.called.Statement.{statement}
 use Rattle.decide.proofs.called.Tie as tie

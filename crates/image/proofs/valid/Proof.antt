@@ -7,7 +7,7 @@ use Rattle.folds.specs.Tests.{cond_self}
 use Rattle.geometry.specs.Frame.{framed, framed_long, Framed}
 use Rattle.drives.specs.Table.{table_ok}
 use Rattle.slots.specs.Slots.{slots_ok}
-use Rattle.image.specs.Shelf.{valid_is}
+use Rattle.image.proofs.Shelf.{valid_is}
 use Rattle.image.proofs.valid.Statement.{statement}
 use Rattle.image.proofs.valid.Tie as tie
 

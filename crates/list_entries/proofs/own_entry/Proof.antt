@@ -4,7 +4,8 @@ use Prim.Native.Nat.{◌≤◌, ◌-◌}
 use native.Mathlib.Omega.{arith}
 use borrow.Author.Rules.{rules}
 use Rattle.folds.specs.declared.Found.TheVariants.{Nothing}
-use Rattle.folds.specs.Least.{least_below, least_start, least_more, least_stop, least_done}
+use Rattle.folds.specs.Least.{least_below}
+use Rattle.folds.proofs.Least.{least_start, least_more, least_stop, least_done}
 use Rattle.drives.specs.Table.{source_drive}
 use Rattle.command.specs.Command.{source_of}
 use Rattle.meaning.specs.Sources.{is_at, own_entry}

@@ -2,7 +2,7 @@
 use mathlib.Core.Path.{sym, ◌∙◌}
 use borrow.Author.Tests.{not-true, not-false}
 use borrow.Author.Rules.{rules}
-use Rattle.image.specs.Shelf.{valid_long, valid_framed}
+use Rattle.image.proofs.Shelf.{valid_long, valid_framed}
 use Rattle.rowsum.specs.Whole.{text_shelf, text_none}
 use Rattle.rowsum.proofs.listing.Statement.{statement}
 use Rattle.rowsum.proofs.listing.Tie as tie

@@ -5,7 +5,8 @@ use Prim.Native.Nat.{◌≤◌, ◌-◌}
 use borrow.Author.Rules.{rules}
 use borrow.Author.Tests.{eq-eqb, ne_eqb}
 use Rattle.folds.specs.declared.Found.TheVariants.{Nothing}
-use Rattle.folds.specs.Least.{least_below, least_start, least_more, least_stop, least_done}
+use Rattle.folds.specs.Least.{least_below}
+use Rattle.folds.proofs.Least.{least_start, least_more, least_stop, least_done}
 use Rattle.slots.specs.declared.Slot.{Slot}
 use Rattle.slots.specs.Record.{slot_of, is_used}
 use Rattle.slots.specs.Find.{empty_slot}
