@@ -50,7 +50,8 @@ pub shelf_is : Shelf shelf shape
 unfolding framed_ok table_ok slots_ok slot_of slot_at every all_below count_below part num
 shelf_is = record { header = refl; framed_fine = refl; table_fine = refl; slots_fine = refl }
 
--- eight bytes
+-- ---- two strings, with eight bytes
+
 module _ (a b c d e f g h : ℕ) where
   shelves : Shelf (regenerated (eight a b c d e f g h)) shape × Shelf (fetched (eight a b c d e f g h)) shape
   unfolding framed_ok table_ok slots_ok slot_of slot_at every all_below count_below part num
@@ -130,6 +131,8 @@ pub strings_left : (ours (fetched passed) (rebuild passed)).image ≡ shelf_of (
 unfolding cdb_of op_of to_be part put num source_of decide_of step_outcome step_image step_room valid_image slot_of slot_at place every all_below count_below least_below drive_of empty_slot better best_of newest_of bytes_of ten_of listed_of own_of resolved_of list_bytes own_entry drive_bad entry_bad first_bad sources_from gathered xor_all ◌⊻◌
 strings_left = refl
 
+-- ---- a list in two orders
+
 -- by the law a program that answers the one GOOD makes the same of the other
 pub by_order : (step : Program) → IsGood step shelf three → OrderFree step → step shelf three ≡ step shelf shuffled
 unfolding cdb_of op_of to_be part num entries_from source_of
@@ -143,6 +146,8 @@ three_good = refl
 
 pub two_orders : ours shelf three ≡ ours shelf shuffled
 two_orders = by_order ours three_good order_free
+
+-- ---- three ranges
 
 cuts_of : EachIs (CutOf shelf shape 0 0 (source 2 0 ∷ source 3 0 ∷ []) 0 []) ranges
 unfolding cdb_of op_of to_be part num entries_from source_of drive_of least_below

@@ -152,6 +152,8 @@ lower_of : Of (strung half 0 lower)
 unfolding cdb_of op_of to_be part num entries_from source_of
 lower_of = strung_of half half_is 0 lower lower_answered (record { code = refl; flag = refl; long = refl; listed = refl; own = refl; sources = refl; rest = refl }) refl refl (record { code = refl; flag = refl; long = refl; listed = refl; own = refl; sources = refl; rest = refl }) refl
 
+-- ---- one REBUILD of all four blocks over all three drives
+
 whole_good : IsGood ours shelf whole × (target_of shelf shape (to 1) ≡ At 0)
 unfolding cdb_of op_of to_be part put num source_of decide_of step_outcome step_image step_room valid_image slot_of slot_at place every all_below count_below least_below drive_of empty_slot better best_of newest_of bytes_of ten_of listed_of own_of resolved_of list_bytes own_entry drive_bad entry_bad first_bad sources_from gathered xor_all ◌⊻◌
 whole_good = (refl, refl)

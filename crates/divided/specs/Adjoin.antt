@@ -1,4 +1,4 @@
--- Ranges that adjoin: what each of them has, all blocks have.
+-- A range within the whole, and what holds of its bytes.
 use Rattle.std.specs.Prelude.{ℕ, ◌+◌, ◌*◌, ◌≤◌, ◌<◌}
 use Rattle.divided.specs.InParts.{Extent}
 

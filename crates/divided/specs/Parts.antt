@@ -1,4 +1,4 @@
--- What a range's operands come to is a part of what the whole's come to.
+-- An image with another's media, but for one.
 use Rattle.std.specs.Prelude.{ℕ, ◌<◌, ◌≡◌}
 use mathlib.Core.List.{List}
 use Rattle.geometry.specs.declared.Geometry.{Geometry}

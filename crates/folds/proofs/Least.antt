@@ -1,4 +1,4 @@
--- The lowest number below n that has a property.
+-- Laws of the search for the lowest number below n that has a property.
 use Prim.Native.Nat.{ℕ, zero, suc, ◌+◌, ◌≤◌, ◌<◌}
 use Rattle.std.proofs.Common.{not-suc-le-zero, add-one, sym, ap₂, ◌∙◌, inl, inr}
 use native.Mathlib.Omega.{arith}

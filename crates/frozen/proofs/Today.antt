@@ -48,6 +48,8 @@ use Rattle.frozen.specs.Lists.{bytes_of, forget, by_fault}
 use Rattle.frozen.proofs.Lists.{first_forget, first_view, sources_alike}
 use Rattle.frozen.specs.Today.{shown}
 
+-- ---- a step: image m, target address a, CDB c, data-out bytes s, receive room r
+
 module _ (m : List ℕ) (a : ℕ) (c s r : List ℕ) where
   abbrev h : old.Header
   h = old.header_of m

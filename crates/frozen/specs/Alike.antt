@@ -1,4 +1,4 @@
--- What lies where, and what comes and goes: today's definitions are 01's, over a header in place of a geometry.
+-- 01's header, and what its search finds, as today's definitions have them.
 use Rattle.geometry.specs.declared.Geometry.{Geometry}
 use Rattle.slots.specs.declared.Best.{Best}
 use Rattle.frozen.specs.Image as old

@@ -1,4 +1,4 @@
--- Today's lists of checks beside 01's: each check says the same, but for the place where it is seen, and its answer is 01's bytes.
+-- Today's answers and checks as 01 has them.
 use Prim.Native.Nat.{ℕ}
 use Rattle.std.specs.Prelude.{List}
 use Rattle.std.proofs.Math.Bool.{cond}
@@ -18,8 +18,6 @@ bytes_of x = record { number = number_of x; sense = (sense_of x).bytes; len = (s
 
 abbrev pub forget : Check → was.Check
 forget (rule n w b x) = rule n tt b (bytes_of x)
-
--- ---- the source entries: 01's three checks of each, one after the other, are today's one check of the first that fails
 
 module _ {D : Type 0} (stop : ℕ → Unit {0} → told.Answer → D) (m : List ℕ) (h : old.Header) (n : ℕ) where
   -- what a fault decides, and where there is none d

@@ -1,4 +1,4 @@
--- GOOD without an act is check 6 or check 7: "GOOD for zero length", "list length zero", "Then GOOD for length 0".
+-- The checks by which GOOD is answered without an act: 6 and 7.
 use Rattle.std.specs.Prelude.{ℕ, Bool, true, cond, not, List, map, eqb}
 use Rattle.folds.specs.Every.{every}
 use Rattle.rules.specs.Rule.{rule}

@@ -1,5 +1,4 @@
--- 01, "Bench shelf": "D 3, B 2, L 4, S 1, M 2; image 92 bytes, slots at 44, media at 68. Addresses 1, 2, 3, all present; block 0 holds
--- 0A0B0C0D, 01020304, 0B090F09; block 1 zeros."
+-- The bench shelf is valid; what spoils it, and where that is seen first.
 use Rattle.std.specs.Prelude.{ℕ, List, ◌++◌, true, false, ◌≡◌, refl, set, take, drop}
 use Rattle.std.proofs.Math.Option.{Option, some, none}
 use Rattle.octets.specs.Part.{part}

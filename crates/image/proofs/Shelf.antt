@@ -1,4 +1,4 @@
--- What a valid image's tests say, by name, and what keeps an image valid.
+-- A valid image's tests hold, by name: it is a shelf, and a shelf is valid.
 use Rattle.std.specs.Prelude.{◌≡◌, refl, List, [], ◌∷◌, ◌++◌, Bool, true, false, cond, ℕ, ◌≤◌, length}
 use Rattle.std.proofs.Common.{sym, ap, ap₂, subst, ◌∙◌}
 use Rattle.folds.specs.Every.{every, holds, every_of}

@@ -45,7 +45,7 @@ result = four 0xF5 0x0B 0xF3 0x0D
 abbrev pub after_c2 : List ℕ
 after_c2 = shelf_of 0 (holding 1 0 result) fresh two three
 
--- ---- it is a shelf
+-- ---- its geometry
 
 abbrev pub bench_shape : Geometry
 bench_shape = record { d = 3; b = 2; l = 4; s = 1; m = 2; table = 32; slots = 44; media = 68 }

@@ -1,4 +1,4 @@
--- Where the blocks of an act lie, and how long its bytes are.
+-- How long the XOR of the sources and the intermediate data is.
 use Prim.Native.Nat.{ℕ, zero, suc, ◌+◌, ◌*◌, ◌≤◌, ◌<◌}
 use Rattle.std.proofs.Common.{arith, length-append}
 use Rattle.std.specs.Prelude.{◌≡◌, Bool, true, false, cond, List, [], ◌∷◌, ◌++◌, eqb, length, get_or}
@@ -16,8 +16,6 @@ use Rattle.meaning.specs.declared.Summing.{Summing}
 use Rattle.meaning.specs.Acts.{home_of, source_blocks, sources_from, int_data, gathered}
 use Rattle.meaning.specs.Allowed.{Sourced}
 use Rattle.meaning.specs.Lengths.{home_range, int_exact}
-
--- ---- the XOR of the sources
 
 module _ (s : List ℕ) (g : Geometry) (a : Came) (sent : List ℕ) (count : ℕ) where
   length_sources : (i left : ℕ) → length (sources_from s g a sent count i left) ≡ left

@@ -1,4 +1,4 @@
--- What one call does: the unread lines stay the retained results, and a row's sum stays what it was but for what is owed.
+-- What every call keeps: the unread lines are the retained results, and a row's sum and what is owed, together, stay.
 use Rattle.std.specs.Prelude.{ℕ, ◌<◌, ◌≡◌, List}
 use Rattle.octets.specs.Xor.{◌⊻◌}
 use Rattle.geometry.specs.declared.Geometry.{Geometry}

@@ -1,4 +1,4 @@
--- The retained results of an image as a list by age, newest first.
+-- What a right image retains, a slot can hold.
 use Rattle.std.specs.Prelude.{ℕ, ◌*◌, ◌<◌, true, ◌≡◌}
 use mathlib.Core.List.Memᴰ
 use mathlib.Core.List.{List, Memᴰ}

@@ -1,5 +1,4 @@
--- All results of a drive go: the slots stay right, the results of the other drives stay in order, and no byte outside the slots' records
--- changes.
+-- The results that stay where all results of a drive go.
 use Rattle.std.specs.Prelude.{ℕ, Bool}
 use Rattle.std.proofs.Math.Bool.{not}
 use Rattle.std.proofs.Math.Dec.{eqb}

@@ -1,4 +1,4 @@
--- An empty slot takes a result at rank k + 1: the slots stay right, and it is the newest.
+-- An empty slot takes a result at rank k + 1.
 use Rattle.std.specs.Prelude.{ℕ, ◌+◌, ◌<◌, false, ◌≡◌}
 use Rattle.geometry.specs.declared.Geometry.{Geometry}
 use Rattle.slots.specs.declared.Slot.{Slot}

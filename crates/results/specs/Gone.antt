@@ -1,4 +1,4 @@
--- A used slot is emptied and the higher ranks fall by one: the slots stay right, and the others keep their order.
+-- A used slot is emptied and the higher ranks fall by one.
 use Prim.Native.Nat.{ℕ, ◌<◌}
 use Rattle.std.specs.Prelude.{true, ◌≡◌}
 use Rattle.geometry.specs.declared.Geometry.{Geometry}

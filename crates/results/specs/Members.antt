@@ -1,4 +1,4 @@
--- The slots by age are exactly the used slots, in descending rank, where the slots are right.
+-- A slot among those by age.
 use Prim.Native.Nat.{ℕ, ◌≤◌, ◌<◌}
 use Rattle.std.specs.Prelude.{true, ◌≡◌}
 use Rattle.geometry.specs.declared.Geometry.{Geometry}

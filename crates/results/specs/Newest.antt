@@ -1,4 +1,4 @@
--- XDREAD's answer: the newest retained on a drive with a block number is the first such in the list by age.
+-- XDREAD's answer, as the search over the slots has it and as the list by age has it.
 use Prim.Native.Nat.{ℕ}
 use Rattle.std.specs.Prelude.{Bool, eqb}
 use mathlib.Core.List.{List, [], ◌∷◌}

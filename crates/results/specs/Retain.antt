@@ -1,4 +1,4 @@
--- A result that is retained: the slots stay right, and it is the newest of the results.
+-- A slot filled with a result that is retained.
 use Rattle.std.specs.Prelude.{ℕ, ◌+◌}
 use mathlib.Core.List.{List, ◌++◌}
 use Rattle.octets.specs.Put.{put}

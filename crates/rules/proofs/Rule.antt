@@ -1,4 +1,4 @@
--- "The first that applies decides": lists of rules, over any type of place, answer and decision.
+-- Laws of lists of rules, of which the first that applies decides.
 use Rattle.std.specs.Prelude.{ℕ, zero, suc, ◌<◌, List, [], ◌∷◌, ◌++◌, true, false, cond, ◌≡◌, refl, length, get_or}
 use Rattle.std.proofs.Common.{arith, ap}
 use Rattle.folds.specs.Each.{each_both}

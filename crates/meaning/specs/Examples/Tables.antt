@@ -1,4 +1,4 @@
--- The tables of examples hold, by computation.
+-- What is said of a table of examples.
 use Rattle.std.specs.Prelude.{◌≡◌, List, map}
 use Rattle.meaning.specs.Examples.Row.{Row, got}
 
