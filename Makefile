@@ -3,7 +3,7 @@
 PREFIX = /usr/local
 DESTDIR =
 into = $(DESTDIR)$(PREFIX)
-sources := crates.txt $(shell find crates -name '*.rt' -o -name '*.antt')
+sources := crates.txt $(shell find crates -name out -prune -o \( -name '*.rt' -o -name '*.antt' \) -print)
 
 all:
 	tools/native-lib
@@ -29,8 +29,8 @@ target/plain-rebuild: docs/src/rebuild.rs
 target/native/libshelf_c.a: $(sources)
 	tools/native-lib
 
-target/bin/rows: $(sources)
-	rt check rows
+crates/rows/out/rows: $(sources)
+	cd crates/rows && rt run </dev/null >/dev/null
 	touch $@
 
 install: install-library install-rows-$(shell uname -m)
@@ -44,13 +44,13 @@ install-library: target/native/libshelf_c.a
 	install -m 644 docs/man/shelf.3 '$(into)/share/man/man3/'
 
 # The row program is for x86-64, where it runs by itself: its one library is the C library (glibc 2.34 or later).
-install-rows-x86_64: target/bin/rows
+install-rows-x86_64: crates/rows/out/rows
 	install -d '$(into)/bin' '$(into)/share/man/man1'
-	install -m 755 target/bin/rows '$(into)/bin/'
+	install -m 755 crates/rows/out/rows '$(into)/bin/'
 	install -m 644 docs/man/rows.1 '$(into)/share/man/man1/'
 
-# Elsewhere it needs an emulator, which only the kit has: tools/rows runs it there.
+# Elsewhere it needs an emulator: tools/rows runs it there.
 install-rows-%:
-	@echo "install: the row program is for x86-64 and is left out; tools/rows runs it here, with the kit's emulator"
+	@echo "install: the row program is for x86-64 and is left out; tools/rows runs it here, with the emulator qemu-x86_64"
 
 .PHONY: all test bench install install-library install-rows-x86_64

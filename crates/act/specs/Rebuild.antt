@@ -60,7 +60,7 @@ module _ (s : List ℕ) (g : Geometry) (x : Span) (j : Summing) (sent : List ℕ
         some_source = omega (arith, h.some_source);
         exact = λ q. omega (arith, int_exact s g x j sent frame h q);
         own_in = a;
-        past_table = omega (arith, p, span_after_media g x, frame.placed.slots_end_lem);
+        past_table = omega (arith, p, span_after_media g x, frame.placed.slot_ends);
         to_in = a;
         own_apart = λ (q : false ≡ true). absurd (true≢false (sym q));
         inside = inside;

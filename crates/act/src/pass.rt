@@ -8,7 +8,7 @@ ghost use Rattle.act.specs.Pass.{passed_of, passed_piece, Passable};
 
 // The result of the bytes sent over those at index from goes to index to, with adds XORed into what
 // is there.
-#[derive(Drop)]
+#[derive(Clone, Copy)]
 pub struct Pass {
     pub from: usize,
     pub to: usize,

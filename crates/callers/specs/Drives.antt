@@ -113,7 +113,7 @@ module _ (m : List ℕ) (g : Geometry) (a : Came) (t : ℕ) (h : Names m g a t) 
           wrote = tt;
           kept = λ x r o.
               ap (λ (y : List ℕ). blocks_of y g x) mark_is
-              ∙ part_marked m g t state p inside (span_at g x) _ (omega (arith, place_after_media g x.drive x.block.0, p.slots_end_lem));
+              ∙ part_marked m g t state p inside (span_at g x) _ (omega (arith, place_after_media g x.drive x.block.0, p.slot_ends));
           retained = ap (λ (x : List ℕ). results x g) mark_is ∙ marked_results m g h.shelf t state inside;
           sum_is = λ r l. ap (λ (x : List ℕ). row_sum x g r) mark_is ∙ marked_sum m g h.shelf r t state inside ∙ sym (xor_nil (row_sum m g r));
         }

@@ -10,7 +10,7 @@ ghost use Rattle.command.specs.Command.{op_of1994, op_of, has, size_of, zero_bit
 use drives::Came;
 use geometry::{Address, Block, Geometry};
 
-#[derive(Drop)]
+#[derive(Clone, Copy)]
 pub enum Op {
     XdWrite,
     XpWrite,
@@ -26,7 +26,7 @@ pub enum Op {
 }
 
 // How a CDB is laid out: 16 bytes, 10 bytes, 10 bytes for a list; an unknown code has no layout.
-#[derive(Drop)]
+#[derive(Clone, Copy)]
 pub enum Layout {
     Sixteen,
     Ten,
@@ -35,7 +35,7 @@ pub enum Layout {
 }
 
 // What a CDB says. A field that the command lacks is 0.
-#[derive(Drop)]
+#[derive(Clone, Copy)]
 pub struct Command {
     // byte 0 as it was sent: two codes say XPWRITE, two say XDREAD
     pub code: usize,
@@ -57,7 +57,7 @@ pub struct Command {
 }
 
 // A source entry of a parameter list.
-#[derive(Drop)]
+#[derive(Clone, Copy)]
 pub struct Source {
     pub address: Address,
     pub block: Block,

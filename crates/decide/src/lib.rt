@@ -19,7 +19,7 @@ use meaning::{Decision, Seen};
 use sense::Answer;
 
 // What calls 1 and 2 say: the answer, or the image's geometry and the target's index.
-#[derive(Drop)]
+#[derive(Clone, Copy)]
 pub enum Reached {
     Refused(Answer),
     Drive(Geometry, usize),

@@ -37,7 +37,7 @@ pub fn span(t: usize, k: Command) -> Span
 
 // What a run of checks says: the first that applies, or that none does. Small beside a decision, which
 // holds an act.
-#[derive(Drop)]
+#[derive(Clone, Copy)]
 enum Verdict {
     Refuse(usize, Seen, Answer),
     Pass,

@@ -49,7 +49,7 @@ module _ (g : Geometry) (p : Placed g) where
     where
       before : (ws : List Over) → EachIs (λ w. OffSpan g 0 g.slots w.blocks) ws
       before [] = tt
-      before (w ∷ ws) = (inl (omega (arith, span_after_media g w.blocks, p.slots_end_lem)), before ws)
+      before (w ∷ ws) = (inl (omega (arith, span_after_media g w.blocks, p.slot_ends)), before ws)
 
 module _ (g : Geometry) (a n : ℕ) where
   pub written_beside : (m : List ℕ) (ws : List Over) → EachIs (Covers g) ws → EachIs (λ w. OffSpan g a n w.blocks) ws → part (written m g ws) a n ≡ part m a n

@@ -42,7 +42,7 @@ module _ (g : Geometry) (p : Placed g) (r : ℕ) (lr : r < g.b) where
       let y = v.blocks in
       let t = put m (span_at g x) w.bytes in
       ap (λ (b : Bool). cond b (share g y.block.0 (blocks_of t g y ⊻ v.bytes) r) [] ⊻ moved t g vs r)
-      (same_counts t m g (front_put m g (span_at g x) w.bytes (omega (arith, span_after_media g x, p.slots_end_lem))) y.drive d.range.drive_in)
+      (same_counts t m g (front_put m g (span_at g x) w.bytes (omega (arith, span_after_media g x, p.slot_ends))) y.drive d.range.drive_in)
       ∙ ap₂ (λ (u z : List ℕ). cond (counts m g y.drive) (share g y.block.0 (u ⊻ v.bytes) r) [] ⊻ z)
       (other_drive m g x.drive y.drive x.block.0 y.block.0 x.count y.count (y.count * g.l) w.bytes (λ q. ne (sym q))
       c.range.range_in d.range.range_in (omega (arith, c.exact)) (omega arith))
@@ -80,4 +80,4 @@ module _ (m : List ℕ) (g : Geometry) (h : Shelf m g) (r : ℕ) where
   pub marked_sum : (i state : ℕ) → i < g.d → row_sum (marked m g i state) g r ≡ row_sum m g r
   marked_sum i state l =
       sum_same m (marked m g i state) g r (marked_counts m g i state)
-      (λ d k. part_marked m g i state p l (place g d r) g.l (omega (arith, place_after_media g d r, p.slots_end_lem)))
+      (λ d k. part_marked m g i state p l (place g d r) g.l (omega (arith, place_after_media g d r, p.slot_ends)))

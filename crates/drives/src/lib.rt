@@ -11,7 +11,7 @@ use folds::Found;
 use geometry::{Address, Geometry};
 
 // How a command came: the address that it was sent to.
-#[derive(Drop)]
+#[derive(Clone, Copy)]
 pub struct Came {
     pub target: Address,
 }

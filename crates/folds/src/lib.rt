@@ -3,7 +3,7 @@
 #![tactic(auto)]
 
 // What a search over numbers finds.
-#[derive(Drop)]
+#[derive(Clone, Copy)]
 pub enum Found {
     At(usize),
     Nothing,

@@ -16,7 +16,7 @@ use meaning::Summing;
 
 // What is gathered: the sources of a list and, with Int Data, the bytes after the list, `count` blocks of
 // each; with own the blocks at index from besides. The XOR goes to index to.
-#[derive(Drop)]
+#[derive(Clone, Copy)]
 pub struct Job {
     pub own: bool,
     pub from: usize,

@@ -23,7 +23,7 @@ pub record Placed (g : Geometry) : Type 0 where
   pub ranges : InRange g
   pub header_ends : 32 ≤ g.table
   pub table_ends : g.table + stride g * g.d ≤ g.slots
-  pub slots_end_lem : g.slots + g.s * slot_size g ≤ g.media
+  pub slot_ends : g.slots + g.s * slot_size g ≤ g.media
   pub media_low : g.media < 4294967296
 
 -- and the media end within the image
@@ -68,7 +68,7 @@ placed g r e =
     let table : g.table ≡ 32 = eqb-true _ _ (holds _ 0 e) in
     let slots : g.slots ≡ table_end g = eqb-true _ _ (holds _ 1 e) in
     let media : g.media ≡ slots_end g = eqb-true _ _ (holds _ 2 e) in
-    record { ranges = ranges; header_ends = omega arith; table_ends = omega arith; slots_end_lem = omega arith; media_low = omega (arith, slots_small g ranges) }
+    record { ranges = ranges; header_ends = omega arith; table_ends = omega arith; slot_ends = omega arith; media_low = omega (arith, slots_small g ranges) }
 
 pub framed_long : (s : List ℕ) → framed_ok s ≡ true → 32 ≤ length s
 unfolding framed_ok

@@ -11,15 +11,15 @@ ghost use Rattle.geometry.specs.Frame.{InRange, Placed};
 
 // A drive's address, and a block number: both are four bytes in a source entry, and neither can
 // stand where the other is due.
-#[derive(Drop)]
+#[derive(Clone, Copy)]
 pub struct Address(pub usize);
 
-#[derive(Drop)]
+#[derive(Clone, Copy)]
 pub struct Block(pub usize);
 
 // The header's eight fields, named after 01: D drives of B blocks of L bytes, S slots of M blocks,
 // and where the drive table, the slots and the media start.
-#[derive(Drop)]
+#[derive(Clone, Copy)]
 pub struct Geometry {
     pub d: usize,
     pub b: usize,

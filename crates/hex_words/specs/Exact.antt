@@ -1,6 +1,6 @@
 -- Reading and writing are exact: what was written is read, and only what is written so is read.
 use Rattle.std.specs.Prelude.{ℕ, zero, suc, ◌+◌, ◌-◌, ◌*◌, ◌/◌, ◌%◌, ◌<◌, true, false, ◌&&◌, List, [], ◌∷◌, ◌≡◌, refl, eqb, ltb, length, get_or}
-use Rattle.std.proofs.Common.{not-suc-le-zero, le_of_suc-le-suc, arith, ⊎_elim, sym, ap, ◌∙◌, ltb-true, eqb-true, lt-ltb, le-ltb, eq-eqb}
+use Rattle.std.proofs.Common.{not-suc-le-zero, le_of_suc-le-suc, arith, ⊎_elim, sym, ltb-true, eqb-true, lt-ltb, le-ltb, eq-eqb}
 use Rattle.std.proofs.Math.Bool.{and-eq-true_iff, or-true}
 use Rattle.std.proofs.lemmas.Bool.{eqb-false}
 use Rattle.octets.specs.Octets.{Octets, octets_tail}

@@ -18,7 +18,7 @@ use geometry::Block;
 use sense::Answer;
 
 // Blocks of a drive.
-#[derive(Drop)]
+#[derive(Clone, Copy)]
 pub struct Span {
     pub drive: usize,
     pub block: Block,
@@ -26,14 +26,14 @@ pub struct Span {
 }
 
 // What is summed besides the list: Int Data, and how the command came, by which sources are looked up.
-#[derive(Drop)]
+#[derive(Clone, Copy)]
 pub struct Summing {
     pub int: usize,
     pub came: Came,
 }
 
 // What a command that passed every check does. Flags are 0 or 1.
-#[derive(Drop)]
+#[derive(Clone, Copy)]
 pub enum Act {
     Read(Span),
     Write(Span),
@@ -54,7 +54,7 @@ pub enum Act {
 
 // Where the check that decided saw it: nowhere, a byte of the CDB or of the parameter list, the state
 // of a drive, a byte of a source entry, or the state of the drive that a source entry names.
-#[derive(Drop)]
+#[derive(Clone, Copy)]
 pub enum Seen {
     Dash,
     Cdb(usize),
@@ -65,7 +65,7 @@ pub enum Seen {
 }
 
 // What is wrong with the first source entry that fails: the entry, and of a failed drive its index.
-#[derive(Drop)]
+#[derive(Clone, Copy)]
 pub enum Fault {
     Clear,
     Absent(usize),
@@ -75,7 +75,7 @@ pub enum Fault {
 
 // A check decided: its number in 01's list, where it was seen, and the answer. Or none did: what is done,
 // and the answer to it.
-#[derive(Drop)]
+#[derive(Clone, Copy)]
 pub enum Decision {
     Stop(usize, Seen, Answer),
     Go(Act, Answer),

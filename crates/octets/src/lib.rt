@@ -20,7 +20,7 @@ pub use new::keep_new;
 pub use number::{be2, be3, be4, byte, put_be4, to_be4};
 
 // The last four bytes of a number, the highest first.
-#[derive(Drop)]
+#[derive(Clone, Copy)]
 pub struct Four(pub u8, pub u8, pub u8, pub u8);
 
 // XORs src into dst. It has no locals but an index, so its stack does not grow with the block.

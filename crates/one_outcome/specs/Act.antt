@@ -27,7 +27,7 @@ pass_on_once = equation
 pub mix_once : Only inner.mix (λ _ _ s. s.0.now)
 mix_once = equation
 
-pub write_data_once : Only inner.write-data (λ _ _ s. s.0.now)
+pub write_data_once : Only inner.write_data (λ _ _ s. s.0.now)
 write_data_once = equation
 
 pub rebuild_once : Only inner.rebuild (λ _ _ s. s.0.now)

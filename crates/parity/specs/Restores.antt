@@ -57,7 +57,7 @@ module _ (m : List ℕ) (g : Geometry) (h : Shelf m g) (up : AllPresent m g) (sm
   each = perm_each (Other g.d d) w.every_other (others_each g.d d)
 
   same_front : SameFront t m g
-  same_front = front_put m g at ys (omega (arith, place_after_media g d b, f.placed.slots_end_lem))
+  same_front = front_put m g at ys (omega (arith, place_after_media g d b, f.placed.slot_ends))
 
   how_many : suc (length es) ≡ g.d
   how_many = ap suc (perm_length w.every_other) ∙ length_others g.d d w.drive_in

@@ -52,7 +52,7 @@ module _ (s : List ℕ) (g : Geometry) (f : Framed s g) where
   module _ (h : length s ≤ 49152) where
     -- the image has a header, a table and D*B*L bytes
     media_fit : g.d * (g.b * g.l) + 32 + 4 * g.d ≤ 49152
-    media_fit = omega (arith, mul_assoc g.d g.b g.l, f.media_end, f.placed.slots_end_lem, f.placed.table_ends, f.placed.header_ends)
+    media_fit = omega (arith, mul_assoc g.d g.b g.l, f.media_end, f.placed.slot_ends, f.placed.table_ends, f.placed.header_ends)
 
     blocks_fit : 2 * (g.b * g.l) ≤ 49112
     blocks_fit = omega (arith, media_fit, mul-le-mul_right (g.b * g.l) f.placed.ranges.d_low, f.placed.ranges.d_low)

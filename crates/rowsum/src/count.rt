@@ -34,7 +34,7 @@ pub fn is_open(sum: &mut [u8], image: &[u8], g: Geometry, row: usize) -> bool
 }
 
 // Rows that are open, and the bytes of their lines.
-#[derive(Drop)]
+#[derive(Clone, Copy)]
 pub struct Tally {
     pub rows: usize,
     pub bytes: usize,

@@ -8,7 +8,7 @@ ghost use Rattle.sense.specs.Answers.{number_of};
 ghost use Rattle.sense.specs.Sense.{plain_of, no_sense, plain_sense, absent_sense, nested_sense, sense_of, outcome_of};
 
 // 01, "Answers and the order of checks".
-#[derive(Drop)]
+#[derive(Clone, Copy)]
 pub enum Answer {
     // GOOD
     Good,
@@ -47,14 +47,14 @@ pub enum Answer {
 }
 
 // 37 bytes, of which the first `len` are the sense; the others are zero.
-#[derive(Drop)]
+#[derive(Clone, Copy)]
 pub struct Sense {
     pub bytes: [u8; 37],
     pub len: usize,
 }
 
 // What a call hands back: the answer, its sense, and the byte count of a GOOD READ or XDREAD.
-#[derive(Drop)]
+#[derive(Clone, Copy)]
 pub struct Outcome {
     pub answer: Answer,
     pub sense: Sense,

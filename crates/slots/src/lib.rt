@@ -18,7 +18,7 @@ use geometry::{Block, Geometry};
 pub use judge::{slots_ok, used_count};
 
 // A slot's record. `last` is its last four bytes, which are zero.
-#[derive(Drop)]
+#[derive(Clone, Copy)]
 pub struct Slot {
     pub rank: usize,
     pub kind: usize,
@@ -29,7 +29,7 @@ pub struct Slot {
 }
 
 // The best slot so far of a search, and its rank, 0 where there is none.
-#[derive(Drop)]
+#[derive(Clone, Copy)]
 pub struct Best {
     pub top: usize,
     pub found: Found,

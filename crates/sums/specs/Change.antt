@@ -122,7 +122,7 @@ module _ (s : List ℕ) (g : Geometry) (f : Framed s g) (d b n : ℕ) (w : Range
       (order r b)
 
   kept : SameCounts (put s at ys) s g
-  kept = same_counts (put s at ys) s g (front_put s g at ys (omega (arith, place_after_media g d b, f.placed.slots_end_lem)))
+  kept = same_counts (put s at ys) s g (front_put s g at ys (omega (arith, place_after_media g d b, f.placed.slot_ends)))
 
   -- each row's sum changes by the old bytes and the new ones there, where the drive counts
   pub sum_put : (r : ℕ) → r < g.b → row_sum (put s at ys) g r ≡ row_sum s g r ⊻ cond (counts s g d) (share g b (old ⊻ ys) r) []

@@ -1,7 +1,7 @@
 // Text: words and numbers, written into a room that the caller lends.
 //
 // A writer takes the room, the index to write at and what to write, and answers the index after it.
-// Its contract is one record, `Wrote`; two writers one after the other are the law `Wrote-then`.
+// Its contract is one record, `Wrote`; two writers one after the other are the law `wrote_then`.
 
 #![tactic(auto)]
 

@@ -1,0 +1,9 @@
+-- `decide_list::regenerate` meets its contract.
+use borrow.Author.Rules.{rules}
+use Rattle.folds.specs.Tests.{tests}
+use Rattle.decide_list.specs.Stages.{regenerate_of}
+use Rattle.decide_list.proofs.regenerate.Goals as goal
+
+pub returns : goal.returns
+unfolding regenerate_of
+returns c = search tests

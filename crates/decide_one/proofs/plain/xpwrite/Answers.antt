@@ -1,0 +1,16 @@
+-- `decide_one::plain::xpwrite` meets its contract.
+use mathlib.Core.Path.{◌∙◌}
+use native.Mathlib.Omega.{arith}
+use borrow.Author.Rules.{rules}
+use Rattle.command.specs.Length.{bytes_small}
+use Rattle.decide_one.specs.Laws.{xpwrite_on}
+use Rattle.decide_one.proofs.plain.xpwrite.Goals as goal
+
+pub overflow_mul-k : goal.overflow_mul-k
+overflow_mul-k c =
+    let args = c.args in
+    let pre = c.requires in
+    omega (arith, bytes_small args.k args.g pre.1 pre.0)
+
+pub returns : goal.returns
+returns c = c.settle.ensures ∙ xpwrite_on _ _ _ _ c.span.ensures _ _ c.limited-v.ensures

@@ -1,0 +1,15 @@
+-- `hex_words::digits::number` meets its contract.
+use Rattle.std.proofs.Common.{ℕ, List, ap, ◌∙◌, arith}
+use Rattle.octets.specs.Put.{put_whole}
+use Rattle.octets.specs.Number.{be}
+use Rattle.hex_words.specs.Unhex.{number_long, number_hex, length_unhex}
+use Rattle.hex_words.proofs.digits.number.Goals as goal
+
+pub unhex-requires : goal.unhex-requires
+unhex-requires c = (number_hex _ c.requires, omega (arith, number_long _ c.requires))
+
+pub returns : goal.returns
+returns c =
+    c.be4.ensures.0
+    ∙ ap (λ (xs : List ℕ). be 4 xs 0)
+    (c.unhex.ensures.wrote.leaves ∙ put_whole _ _ (omega (arith, length_unhex c.args.w.now, number_long _ c.requires)))
