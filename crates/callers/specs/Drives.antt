@@ -5,7 +5,8 @@ use Rattle.folds.specs.Cases.{same as alike}
 use Rattle.folds.specs.declared.Found.{Found}
 use Rattle.folds.specs.declared.Found.TheVariants.{At}
 use Rattle.folds.specs.Least.{index}
-use Rattle.rules.specs.Rule.{AllPass, none_decides}
+use Rattle.rules.specs.Rule.{AllPass}
+use Rattle.rules.proofs.Rule.{none_decides}
 use Rattle.geometry.specs.declared.Geometry.{Geometry}
 use Rattle.octets.specs.Xor.{xor_nil}
 use Rattle.geometry.specs.Header.{geometry_of}
@@ -20,9 +21,11 @@ use Rattle.drives.specs.Marked.{state_marked, state_marked_other, address_marked
 use Rattle.slots.specs.Change.{dropped}
 use Rattle.results.specs.Lists.{keeping}
 use Rattle.results.specs.Results.{results}
-use Rattle.results.specs.Drop.{of_other, drop_results, drop_part}
+use Rattle.results.specs.Drop.{of_other}
+use Rattle.results.proofs.Drop.{drop_results, drop_part}
 use Rattle.sums.specs.Row.{row_sum}
-use Rattle.image.specs.Shelf.{Shelf, shelf_valid, shelf_frame}
+use Rattle.image.specs.Shelf.{Shelf, shelf_frame}
+use Rattle.image.proofs.Shelf.{shelf_valid}
 use Rattle.sense.specs.declared.Answer.TheVariants.{Good}
 use Rattle.meaning.specs.Checks.{is_nothing, calls}
 use Rattle.meaning.specs.Step.{answered, untouched, reset_answer, reset_image, mark_calls, mark_answer, mark_image}

@@ -20,7 +20,8 @@ use Rattle.results.specs.Newest.{answers}
 use Rattle.results.specs.Ages.{ages_to, slot_ranked}
 use Rattle.results.specs.Results.{Result, result_at, results}
 use Rattle.image.specs.Shelf.{Shelf}
-use Rattle.image.specs.Bench.{zeros, shelf_of, vacant, one, two, three, bench, fresh, result, after_c2, bench_shape, bench_shelf}
+use Rattle.image.specs.Bench.{zeros, shelf_of, vacant, one, two, three, bench, fresh, result, after_c2, bench_shape}
+use Rattle.image.proofs.Bench.{bench_shelf}
 use Rattle.command.specs.declared.Op.TheVariants.{XpWrite}
 use Rattle.command.specs.Lossless.{cdb_of}
 use Rattle.meaning.specs.Acts.{Over, over}

@@ -6,14 +6,16 @@ use Rattle.std.proofs.Common.{sym, subst, ◌∙◌, eq-eqb}
 use Rattle.std.proofs.Math.Path.{ap, ap₂}
 use Rattle.std.proofs.Math.Dec.{eqb}
 use Rattle.octets.specs.Put.{put, put_nil}
-use Rattle.rules.specs.Rule.{first, first_append, AllPass, none_decides}
+use Rattle.rules.specs.Rule.{first, AllPass}
+use Rattle.rules.proofs.Rule.{first_append, none_decides}
 use Rattle.folds.specs.Least.{index}
 use Rattle.geometry.specs.declared.Geometry.{Geometry}
 use Rattle.geometry.specs.Header.{geometry_of}
 use Rattle.drives.specs.declared.Came.{Came}
 use Rattle.drives.specs.Table.{state_of, target_of}
 use Rattle.results.specs.Results.{results}
-use Rattle.image.specs.Shelf.{Shelf, shelf_valid, shelf_frame}
+use Rattle.image.specs.Shelf.{Shelf, shelf_frame}
+use Rattle.image.proofs.Shelf.{shelf_valid}
 use Rattle.sense.specs.declared.Answer.TheVariants.{Good}
 use Rattle.sense.specs.Sense.{outcome_of}
 use Rattle.command.specs.declared.Op.{Op}

@@ -10,7 +10,8 @@ use mathlib.Core.List.{List, [], ◌∷◌, ◌++◌}
 use Rattle.std.specs.Int.Bits.{bit_and}
 use borrow.Author.Tests.{le-ltb, eq-eqb, ne_eqb}
 use Rattle.folds.specs.Each.{each_append}
-use Rattle.rules.specs.Rule.{rule, applies, first, first_append, AllPass, none_decides}
+use Rattle.rules.specs.Rule.{rule, applies, first, AllPass}
+use Rattle.rules.proofs.Rule.{first_append, none_decides}
 use Rattle.geometry.specs.declared.Geometry.{Geometry}
 use Rattle.drives.specs.declared.Came.{Came}
 use Rattle.drives.specs.Table.{secondary_of, source_drive}
@@ -36,7 +37,7 @@ use Rattle.callers.specs.Xdwrites.{XdwriteByte, together_not}
 use Rattle.std.proofs.Math.Nat.{zero-mul}
 use Rattle.folds.specs.declared.Found.{Found}
 use Rattle.folds.specs.declared.Found.TheVariants.{Nothing}
-use Rattle.folds.specs.Least.{least_none}
+use Rattle.folds.proofs.Least.{least_none}
 use Rattle.callers.specs.Lists.{Headed}
 use Rattle.callers.specs.Listed.{ListByte}
 

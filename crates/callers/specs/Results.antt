@@ -9,8 +9,9 @@ use Rattle.folds.specs.declared.Found.TheVariants.{At, Nothing}
 use Rattle.geometry.specs.declared.Geometry.{Geometry}
 use Rattle.slots.specs.Find.{empty_slot, newest_of}
 use Rattle.results.specs.First.{first_of}
-use Rattle.results.specs.Full.{full}
-use Rattle.results.specs.Newest.{answers, newest_result, newest_missing}
+use Rattle.results.proofs.Full.{full}
+use Rattle.results.specs.Newest.{answers}
+use Rattle.results.proofs.Newest.{newest_result, newest_missing}
 use Rattle.results.specs.Results.{Result, results, result_at}
 use Rattle.image.specs.Shelf.{Shelf}
 use Rattle.meaning.specs.Allowed.{Held, Free, empty_free}

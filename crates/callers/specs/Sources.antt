@@ -7,7 +7,7 @@ use borrow.Author.Tests.{le-ltb, ne_eqb}
 use Rattle.octets.specs.Octets.{Octets}
 use Rattle.folds.specs.declared.Found.TheVariants.{Nothing}
 use Rattle.folds.specs.Each.{EachIs, each_at, each_implies}
-use Rattle.folds.specs.Least.{least_none}
+use Rattle.folds.proofs.Least.{least_none}
 use Rattle.geometry.specs.declared.Geometry.{Geometry}
 use Rattle.geometry.specs.Places.{Range}
 use Rattle.drives.specs.declared.Came.{Came}

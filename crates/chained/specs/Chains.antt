@@ -6,7 +6,8 @@ use Rattle.geometry.specs.declared.Geometry.{Geometry}
 use Rattle.geometry.specs.Header.{blocks_at}
 use Rattle.drives.specs.declared.Came.{Came}
 use Rattle.results.specs.First.{first_of, sans_first, first_hit, sans_hit}
-use Rattle.results.specs.Newest.{answers, answers_own}
+use Rattle.results.specs.Newest.{answers}
+use Rattle.results.proofs.Newest.{answers_own}
 use Rattle.results.specs.Results.{Result, results}
 use Rattle.command.specs.declared.Op.TheVariants.{XdRead}
 use Rattle.command.specs.Command.{op_of}

@@ -14,7 +14,7 @@ use Rattle.drives.specs.declared.Came.{Came}
 use Rattle.drives.specs.Table.{target_of}
 use Rattle.drives.specs.Lookup.{drive_inside}
 use Rattle.image.specs.Valid.{valid_image}
-use Rattle.image.specs.Shelf.{valid_framed}
+use Rattle.image.proofs.Shelf.{valid_framed}
 use Rattle.sense.specs.declared.Answer.{Answer}
 use Rattle.sense.specs.declared.Answer.TheVariants.{BadImage, NoTarget}
 use Rattle.meaning.specs.declared.Seen.{Seen}

@@ -11,8 +11,8 @@ use Rattle.geometry.specs.Stores.{stored}
 use Rattle.geometry.specs.Outside.{Away, outside_away}
 use Rattle.slots.specs.Kept.{kept_empty}
 use Rattle.results.specs.Best.{newest_at}
-use Rattle.results.specs.Release.{release_part}
-use Rattle.results.specs.Retain.{retain_away}
+use Rattle.results.proofs.Release.{release_part}
+use Rattle.results.proofs.Retain.{retain_away}
 use Rattle.image.specs.Shelf.{Shelf, shelf_frame}
 use Rattle.meaning.specs.declared.Span.{Span}
 use Rattle.meaning.specs.declared.Act.{Act}

@@ -3,7 +3,7 @@ use Rattle.std.specs.Prelude.{◌≡◌, refl, false, ℕ, ◌<◌}
 use Rattle.std.proofs.Common.{sym, inl, arith, ltb-false}
 use Rattle.std.proofs.Math.Path.{subst}
 use mathlib.Core.List.{List}
-use Rattle.rules.specs.Rule.{first_cases, first_both}
+use Rattle.rules.proofs.Rule.{first_cases, first_both}
 use Rattle.geometry.specs.declared.Geometry.{Geometry}
 use Rattle.geometry.specs.Header.{geometry_of}
 use Rattle.geometry.specs.Outside.{outside_away}
@@ -13,7 +13,7 @@ use Rattle.drives.specs.Front.{SameFront}
 use Rattle.drives.specs.Lookup.{drive_inside}
 use Rattle.drives.specs.Marked.{address_marked}
 use Rattle.slots.specs.Change.{dropped}
-use Rattle.results.specs.Drop.{drop_part}
+use Rattle.results.proofs.Drop.{drop_part}
 use Rattle.image.specs.Shelf.{Shelf, shelf_frame}
 use Rattle.image.specs.Keeps.{shelf_dropped, shelf_marked}
 use Rattle.sense.specs.declared.Answer.{Answer}

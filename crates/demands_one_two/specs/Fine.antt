@@ -14,7 +14,8 @@ use Rattle.meaning.specs.declared.Act.{Act}
 use Rattle.meaning.specs.declared.Act.TheVariants.{Read, Write, XpWrite, XdRead, Couple, Retain, Rebuild, Regenerate, XdWriteRead}
 use Rattle.meaning.specs.Acts.{blocks_of, Over, over, Change, effect, result_of, passed_on, data_over, effect_of}
 use Rattle.meaning.specs.Allowed.{Blocks, Filled, Roomy, Limited, Allowed}
-use Rattle.meaning.specs.Lengths.{length_laid, length_blocks, length_result, length_gathered}
+use Rattle.meaning.specs.Lengths.{length_laid, length_blocks, length_result}
+use Rattle.meaning.proofs.Lengths.{length_gathered}
 use Rattle.demands_one_two.specs.Effects.{result_in, Covers, Possible, Distinct, Fine}
 
 module _ (m : List ℕ) (g : Geometry) (f : Framed m g) (s : List ℕ) (room : ℕ) where

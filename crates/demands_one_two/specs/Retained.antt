@@ -12,9 +12,10 @@ use Rattle.geometry.specs.Stores.{stored}
 use Rattle.slots.specs.Kept.{kept_empty}
 use Rattle.results.specs.First.{first_of, sans_first}
 use Rattle.results.specs.Results.{Result, results, result_at}
-use Rattle.results.specs.Retain.{retain_results}
-use Rattle.results.specs.Kept.{kept_results}
-use Rattle.results.specs.Newest.{answers, newest_result, newest_goes}
+use Rattle.results.proofs.Retain.{retain_results}
+use Rattle.results.proofs.Kept.{kept_results}
+use Rattle.results.specs.Newest.{answers}
+use Rattle.results.proofs.Newest.{newest_result, newest_goes}
 use Rattle.image.specs.Shelf.{Shelf, shelf_frame}
 use Rattle.meaning.specs.declared.Span.{Span}
 use Rattle.meaning.specs.declared.Act.{Act}

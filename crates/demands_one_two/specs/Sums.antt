@@ -15,7 +15,7 @@ use Rattle.drives.specs.Table.{marked}
 use Rattle.drives.specs.Front.{front_put}
 use Rattle.drives.specs.Marked.{part_marked}
 use Rattle.slots.specs.Change.{dropped}
-use Rattle.results.specs.Drop.{drop_part}
+use Rattle.results.proofs.Drop.{drop_part}
 use Rattle.image.specs.Shelf.{Shelf, shelf_frame}
 use Rattle.image.specs.Keeps.{shelf_written}
 use Rattle.sums.specs.Row.{counts, row_sum}

@@ -25,7 +25,8 @@ use Rattle.drives.specs.Table.{state_of, target_of}
 use Rattle.slots.specs.Find.{empty_slot, newest_of}
 use Rattle.slots.specs.Change.{released}
 use Rattle.results.specs.First.{first_of, sans_first}
-use Rattle.results.specs.Newest.{answers, newest_result}
+use Rattle.results.specs.Newest.{answers}
+use Rattle.results.proofs.Newest.{newest_result}
 use Rattle.results.specs.Results.{Result, results, result_at, with_result, Sound}
 use Rattle.image.specs.Shelf.{Shelf, shelf_frame}
 use Rattle.sense.specs.declared.Answer.{Answer}
@@ -41,10 +42,10 @@ use Rattle.meaning.specs.declared.Decision.{Decision}
 use Rattle.meaning.specs.declared.Decision.TheVariants.{Stop, Go}
 use Rattle.meaning.specs.Acts.{over, gathered}
 use Rattle.meaning.specs.Allowed.{Blocks, NamesOther, Sourced}
-use Rattle.meaning.specs.Lengths.{length_gathered}
+use Rattle.meaning.proofs.Lengths.{length_gathered}
 use Rattle.meaning.specs.Checks.{Check, checks, carried_out, acts, decide_of}
 use Rattle.meaning.specs.Step.{decided, outcome_after, step_outcome, step_image, step_room}
-use Rattle.grants.specs.Good.{fault_fine}
+use Rattle.grants.proofs.Good.{fault_fine}
 use Rattle.grants.specs.Granted.{allowed_at}
 use Rattle.demands_one_two.specs.Effects.{result_in, in_form}
 use Rattle.demands_one_two.specs.Fine.{fine}

@@ -1,53 +1,17 @@
 -- A shelf of four drives with four blocks each: the laws' conditions can be met there, and what the commands then come to.
-use Prim.Native.Nat.{ℕ, zero, suc, ◌+◌, ◌*◌, ◌<◌}
-use Rattle.std.proofs.Common.{arith, sym, ◌∙◌}
-use Rattle.std.specs.Prelude.{false, ◌≡◌, take, replicate}
-use Rattle.std.proofs.Math.Logic.{inl, inr}
-use Rattle.std.proofs.Math.Path.{refl, ap}
-use mathlib.Core.List.Permᴰ
+use Prim.Native.Nat.{ℕ, ◌+◌, ◌*◌}
+use Rattle.std.specs.Prelude.{◌≡◌, replicate}
 use mathlib.Core.List.{List, [], ◌∷◌, ◌++◌}
-use Rattle.std.proofs.Math.Dec.{lit≤}
-use Rattle.octets.specs.Part.{part}
-use Rattle.octets.specs.Put.{put}
-use Rattle.octets.specs.Number.{num, to_be}
-use Rattle.octets.specs.Xor.{◌⊻◌}
-use Rattle.octets.specs.Octets.{Octets, small_octets}
-use Rattle.octets.specs.Operands.{xor_all}
-use Rattle.folds.specs.declared.Found.TheVariants.{At}
-use Rattle.folds.specs.Each.{EachIs}
-use Rattle.folds.specs.Every.{every}
-use Rattle.folds.specs.All.{all_below}
-use Rattle.folds.specs.Count.{count_below}
-use Rattle.folds.specs.Least.{least_below, at_same}
+use Rattle.octets.specs.Octets.{Octets}
 use Rattle.geometry.specs.declared.Geometry.{Geometry}
-use Rattle.geometry.specs.Header.{framed_ok, slot_at, place}
-use Rattle.drives.specs.Table.{table_ok, drive_of, to, address_of, target_of, failed}
-use Rattle.slots.specs.Record.{slot_of, bytes_of}
-use Rattle.slots.specs.Slots.{slots_ok}
-use Rattle.slots.specs.Find.{empty_slot, better, best_of, newest_of}
-use Rattle.results.specs.First.{first_of}
-use Rattle.results.specs.Newest.{answers}
-use Rattle.results.specs.Results.{results}
-use Rattle.image.specs.Valid.{valid_image}
-use Rattle.image.specs.Shelf.{Shelf}
+use Rattle.drives.specs.Table.{to}
 use Rattle.image.specs.Bench.{four, zeros}
 use Rattle.sense.specs.declared.Answer.TheVariants.{Good}
 use Rattle.sense.specs.Sense.{outcome_of}
 use Rattle.command.specs.declared.Source.{Source}
-use Rattle.command.specs.Command.{op_of, ten_of, listed_of, own_of, resolved_of, list_bytes, source_of}
-use Rattle.command.specs.Lossless.{cdb_of}
-use Rattle.meaning.specs.Acts.{sources_from, gathered}
-use Rattle.meaning.specs.Sources.{own_entry, drive_bad, entry_bad, first_bad}
-use Rattle.meaning.specs.Checks.{decide_of}
-use Rattle.meaning.specs.Step.{step_outcome, step_image, step_room}
 use Rattle.callers.specs.Bytes.{xdread_cdb}
-use Rattle.callers.specs.Lists.{source, entries_from}
-use Rattle.callers.specs.Listed.{together_byte}
-use Rattle.callers.specs.Goes.{◌then◌}
-use Rattle.divided.specs.InParts.{Sent, sent, Reply, reply, Program, ours, OrderFree, Joins, CutFree, IsGood, leaving, rebuilding, medium_of, SameMedia, Ready, Cut, CutOf, EachGood, left}
-use Rattle.divided.specs.Strings.{joins}
-use Rattle.divided.specs.Order.{order_free}
-use Rattle.divided.specs.Cut.{cut_free}
+use Rattle.callers.specs.Lists.{source}
+use Rattle.divided.specs.InParts.{Sent, sent, reply, Program, IsGood, rebuilding, Cut}
 use Rattle.divided.specs.Said.{regenerating}
 
 -- ---- the shelf
@@ -60,7 +24,7 @@ rising k s = row k ++ row (k + 4 * s) ++ row (k + 8 * s) ++ row (k + 12 * s)
     row k = four k (k + s) (k + 2 * s) (k + 3 * s)
 
 -- with this slot, and these blocks of its first drive
-abbrev shelf_of : List ℕ → List ℕ → List ℕ
+abbrev pub shelf_of : List ℕ → List ℕ → List ℕ
 shelf_of slot first =
     four 0 0 0 4 ++ four 0 0 0 4 ++ four 0 0 0 4 ++ four 0 0 0 1 ++ four 0 0 0 2 ++ four 0 0 0 32 ++ four 0 0 0 48 ++ four 0 0 0 72
     ++ four 0 0 0 1 ++ four 0 0 0 2 ++ four 0 0 0 3 ++ four 0 0 0 4 ++ slot ++ first ++ rising 0x11 1 ++ rising 0x21 7 ++ rising 3 13
@@ -70,10 +34,6 @@ shelf = shelf_of (replicate 24 0) (rising 0x80 1)
 
 abbrev pub shape : Geometry
 shape = record { d = 4; b = 4; l = 4; s = 1; m = 2; table = 32; slots = 48; media = 72 }
-
-pub shelf_is : Shelf shelf shape
-unfolding framed_ok table_ok slots_ok slot_of slot_at every all_below count_below part num
-shelf_is = record { header = refl; framed_fine = refl; table_fine = refl; slots_fine = refl }
 
 -- ---- two strings: REGENERATE to drive 2 from drive 3, XDREAD, REBUILD to drive 1 from drives 4 and 2 with the bytes ys
 
@@ -108,39 +68,6 @@ module _ (a b c d e f g h : ℕ) where
   abbrev pub eight : List ℕ
   eight = four a b c d ++ four e f g h
 
-  shelves : Shelf (regenerated eight) shape × Shelf (fetched eight) shape
-  unfolding framed_ok table_ok slots_ok slot_of slot_at every all_below count_below part num
-  shelves = (
-    record { header = refl; framed_fine = refl; table_fine = refl; slots_fine = refl },
-    record { header = refl; framed_fine = refl; table_fine = refl; slots_fine = refl },
-  )
-
-  targets : (target_of (regenerated eight) shape (to 2) ≡ At 1) × (target_of (fetched eight) shape (to 1) ≡ At 0)
-  unfolding drive_of least_below part num
-  targets = (refl, refl)
-
-  media : SameMedia shelf (fetched eight) shape
-  unfolding part num place
-  media = record { addresses = λ i l. address i l; media = λ i l. medium i l }
-    where
-      address : (i : ℕ) → i < 4 → address_of shelf shape i ≡ address_of (fetched eight) shape i
-      address zero l = refl
-      address (suc zero) l = refl
-      address (suc (suc zero)) l = refl
-      address (suc (suc (suc zero))) l = refl
-      address (suc (suc (suc (suc i)))) l = absurd (omega arith)
-
-      medium : (i : ℕ) → i < 4 → medium_of shelf shape i ≡ medium_of (fetched eight) shape i
-      medium zero l = refl
-      medium (suc zero) l = refl
-      medium (suc (suc zero)) l = refl
-      medium (suc (suc (suc zero))) l = refl
-      medium (suc (suc (suc (suc i)))) l = absurd (omega arith)
-
-  -- a drive by its address: it is present, and not the target
-  ready : (x i : ℕ) → drive_of (fetched eight) shape x ≡ At i → failed (fetched eight) shape i ≡ false → (i ≡ 0 → ⊥) → (b : ℕ) → Ready (fetched eight) shape (to 1) 0 (source x b)
-  ready x i e up other b v q = let same : i ≡ v = at_same e q in (ap (failed (fetched eight) shape) (sym same) ∙ up, λ z. other (same ∙ z))
-
   -- a program that answers so
   pub record Passes (step : Program) : Type 0 where
     pub regenerates : step shelf regenerate ≡ reply (outcome_of Good 0) (regenerated eight) []
@@ -148,53 +75,9 @@ module _ (a b c d e f g h : ℕ) where
     pub rebuilds : IsGood step (fetched eight) (rebuild eight)
     pub bytes : Octets (fetched eight)
 
-  -- by the law it leaves what the one REBUILD leaves
-  pub by_law : (step : Program) → Passes step → Joins step → step (fetched eight) one ≡ leaving (step (fetched eight) (rebuild eight)).image one
-  unfolding cdb_of op_of to_be part num entries_from source_of drive_of least_below
-  by_law step p law =
-      law shape shelf (regenerated eight) (fetched eight) regenerate fetch (rebuild eight) 1 0 1 2 2 (source 3 0 ∷ []) others all 0 [] eight (to 1) 0 0xFFFFFFFF []
-      (record {
-        shelf = shelf_is;
-        found = refl;
-        asks = record { code = refl; flag = refl; long = refl; listed = refl; own = refl; sources = refl; rest = refl };
-        some_block = lit≤ tt;
-        good = ap (λ s. s.outcome.answer) p.regenerates;
-      })
-      (record {
-        shelf = shelves.0;
-        found = targets.0;
-        code = refl;
-        block = refl;
-        newest = ap (λ (s : Reply). first_of (answers 1 1) (results s.image shape)) (sym p.regenerates);
-        good = ap (λ s. s.outcome.answer) p.hands;
-        bytes = ap (λ (s : Reply). part s.room 0 8) (sym p.hands);
-      })
-      (record {
-        shelf = shelves.1;
-        bytes = p.bytes;
-        found = targets.1;
-        asks = record { code = refl; flag = refl; long = refl; listed = refl; own = refl; sources = refl; rest = refl };
-        good = p.rebuilds;
-      })
-      media (Permᴰ.trans (Permᴰ.swap refl refl) (Permᴰ.cons refl (Permᴰ.swap refl refl)))
-      (record { found = targets.1; byte = together_byte 0 (inl refl); how_long = inr (refl, refl); exact = inl refl; few = lit≤ tt })
-      (ready 2 1 refl refl (λ q. omega arith) 1, (ready 3 2 refl refl (λ q. omega arith) 0, tt))
-
 -- blocks 1 and 2 of drive 2, blocks 0 and 1 of drive 3
-abbrev passed : List ℕ
+abbrev pub passed : List ℕ
 passed = eight 0x34 0x3E 0x38 0x2E 0x24 0x5E 0x50 0x4E
-
-passes : Passes 0x34 0x3E 0x38 0x2E 0x24 0x5E 0x50 0x4E ours
-unfolding cdb_of op_of to_be part put num source_of decide_of step_outcome step_image step_room valid_image slot_of slot_at place every all_below count_below least_below drive_of empty_slot better best_of newest_of bytes_of ten_of listed_of own_of resolved_of list_bytes own_entry drive_bad entry_bad first_bad sources_from gathered xor_all ◌⊻◌
-passes = record { regenerates = refl; hands = refl; rebuilds = refl; bytes = small_octets (fetched passed) refl }
-
-pub two_strings : ours (fetched passed) one ≡ leaving (ours (fetched passed) (rebuild passed)).image one
-two_strings = by_law 0x34 0x3E 0x38 0x2E 0x24 0x5E 0x50 0x4E ours passes joins
-
--- and the blocks are these
-pub strings_left : (ours (fetched passed) (rebuild passed)).image ≡ shelf_of (replicate 16 0 ++ passed) (take 8 (rising 0x80 1) ++ four 0x4E 0x54 0xAE 0xA8 ++ four 0xAE 0xE4 0xFE 0x90)
-unfolding cdb_of op_of to_be part put num source_of decide_of step_outcome step_image step_room valid_image slot_of slot_at place every all_below count_below least_below drive_of empty_slot better best_of newest_of bytes_of ten_of listed_of own_of resolved_of list_bytes own_entry drive_bad entry_bad first_bad sources_from gathered xor_all ◌⊻◌
-strings_left = refl
 
 -- ---- a list of three in two orders, with Int Data
 
@@ -204,57 +87,14 @@ three = rebuilding (to 1) 4 2 0 (source 3 0 ∷ source 2 1 ∷ source 4 2 ∷ []
 abbrev pub shuffled : Sent
 shuffled = rebuilding (to 1) 4 2 0 (source 4 2 ∷ source 3 0 ∷ source 2 1 ∷ []) passed []
 
--- by the law a program that answers the one GOOD makes the same of the other
-pub by_order : (step : Program) → IsGood step shelf three → OrderFree step → step shelf three ≡ step shelf shuffled
-unfolding cdb_of op_of to_be part num entries_from source_of
-by_order step good law =
-    (law shelf (to 1) three.cdb three.bytes shuffled.bytes [] (inl refl)
-    (record { as_long = refl; head = refl; entries = Permᴰ.trans (Permᴰ.cons refl (Permᴰ.swap refl refl)) (Permᴰ.swap refl refl); rest = refl })).0 good
-
-three_good : IsGood ours shelf three
-unfolding cdb_of op_of to_be part put num source_of decide_of step_outcome step_image step_room valid_image slot_of slot_at place every all_below count_below least_below drive_of empty_slot better best_of newest_of bytes_of ten_of listed_of own_of resolved_of list_bytes own_entry drive_bad entry_bad first_bad sources_from gathered xor_all ◌⊻◌
-three_good = refl
-
-pub two_orders : ours shelf three ≡ ours shelf shuffled
-two_orders = by_order ours three_good order_free
-
 -- ---- four blocks in three ranges: the last one first, by length FFFFFFFFh, and two blocks at last
 
 abbrev pub whole : Sent
 whole = rebuilding (to 1) 0 0xFFFFFFFF 0 (source 2 0 ∷ source 3 0 ∷ []) [] []
 
 -- n blocks from block o on
-abbrev cut : ℕ → ℕ → ℕ → Cut
+abbrev pub cut : ℕ → ℕ → ℕ → Cut
 cut o n count = record { range = record { from = o; count = n }; by = rebuilding (to 1) 0 count o (source 2 o ∷ source 3 o ∷ []) [] [] }
 
 abbrev pub ranges : List Cut
 ranges = cut 3 1 0xFFFFFFFF ∷ cut 0 1 1 ∷ cut 1 2 2 ∷ []
-
-cuts_of : EachIs (CutOf shelf shape 0 0 (source 2 0 ∷ source 3 0 ∷ []) 0 []) ranges
-unfolding cdb_of op_of to_be part num entries_from source_of drive_of least_below
-cuts_of =
-    record { found = refl; some_block = lit≤ tt; asks = record { code = refl; flag = refl; long = refl; listed = refl; own = refl; sources = refl; rest = refl } }
-    then record { found = refl; some_block = lit≤ tt; asks = record { code = refl; flag = refl; long = refl; listed = refl; own = refl; sources = refl; rest = refl } }
-    then record { found = refl; some_block = lit≤ tt; asks = record { code = refl; flag = refl; long = refl; listed = refl; own = refl; sources = refl; rest = refl } }
-    then tt
-
--- by the law a program that answers each GOOD makes the same of the whole
-pub by_cuts : (step : Program) → EachGood step ranges shelf → CutFree step → step shelf whole ≡ leaving (left step ranges shelf) whole
-unfolding drive_of least_below part num
-by_cuts step good law =
-    law shape shelf 0 0 4 (source 2 0 ∷ source 3 0 ∷ []) 0 [] ranges (cut 0 1 1 ∷ cut 1 2 2 ∷ cut 3 1 0xFFFFFFFF ∷ []) (to 1) 0 0xFFFFFFFF []
-    shelf_is (small_octets shelf refl) (lit≤ tt) refl
-    (record { found = refl; byte = together_byte 0 (inl refl); how_long = inr (refl, refl); exact = inl refl; few = lit≤ tt })
-    cuts_of (Permᴰ.trans (Permᴰ.cons refl (Permᴰ.swap refl refl)) (Permᴰ.swap refl refl)) (refl then refl then refl then refl) good
-
-each_good : EachGood ours ranges shelf
-unfolding cdb_of op_of to_be part put num source_of decide_of step_outcome step_image step_room valid_image slot_of slot_at place every all_below count_below least_below drive_of empty_slot better best_of newest_of bytes_of ten_of listed_of own_of resolved_of list_bytes own_entry drive_bad entry_bad first_bad sources_from gathered xor_all ◌⊻◌
-each_good = refl then refl then refl then tt
-
-pub three_ranges : ours shelf whole ≡ leaving (left ours ranges shelf) whole
-three_ranges = by_cuts ours each_good cut_free
-
--- drive 1 is then what drives 2 and 3 come to
-pub ranges_left : left ours ranges shelf ≡ shelf_of (replicate 24 0) (four 0x30 0x3A 0x3C 0x22 ++ four 0x28 0x52 0x5C 0x4A ++ four 0x40 0x7A 0x7C 0x72 ++ four 0x68 0x62 0x9C 0xAA)
-unfolding cdb_of op_of to_be part put num source_of decide_of step_outcome step_image step_room valid_image slot_of slot_at place every all_below count_below least_below drive_of empty_slot better best_of newest_of bytes_of ten_of listed_of own_of resolved_of list_bytes own_entry drive_bad entry_bad first_bad sources_from gathered xor_all ◌⊻◌
-ranges_left = refl

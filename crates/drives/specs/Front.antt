@@ -9,7 +9,7 @@ use Rattle.octets.specs.PutPut.{part_put_below}
 use Rattle.octets.specs.Number.{front_be}
 use Rattle.folds.specs.Every.{every_ext}
 use Rattle.folds.specs.All.{all_ext}
-use Rattle.folds.specs.Least.{least_ext}
+use Rattle.folds.proofs.Least.{least_ext}
 use Rattle.rules.specs.Must.{tests_of}
 use Rattle.geometry.specs.declared.Geometry.{Geometry}
 use Rattle.geometry.specs.Header.{geometry_of, entry_at}

@@ -4,7 +4,7 @@ use Rattle.std.proofs.Common.{arith}
 use borrow.Author.Tests.{eqb-true, eqb-false, eq-eqb, ne_eqb}
 use Rattle.octets.specs.Octets.{Octets}
 use Rattle.folds.specs.declared.Found.TheVariants.{At, Nothing}
-use Rattle.folds.specs.Least.{least_only, least_inside, least_nothing, least_none}
+use Rattle.folds.proofs.Least.{least_only, least_inside, least_nothing, least_none}
 use Rattle.geometry.specs.declared.Geometry.{Geometry}
 use Rattle.geometry.specs.Frame.{Framed}
 use Rattle.drives.specs.Table.{address_of, table_ok, drive_of}

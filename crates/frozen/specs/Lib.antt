@@ -3,7 +3,6 @@ pub mod Results
 pub mod Answers
 pub mod Commands
 pub mod Step
-pub mod Judged
 pub mod Alike
 pub mod Lists
 pub mod Order

@@ -1,27 +1,16 @@
--- Today's lists of checks beside 01's: each check says the same, but for the place where it is seen, and its answer is 01's bytes.
-use Prim.Native.Nat.{ℕ, zero, suc, ◌+◌}
-use Rattle.std.specs.Prelude.{Bool, List, [], ◌∷◌, map, ◌≡◌, ltb}
-use Rattle.std.proofs.Math.Bool.{true, false, cond}
-use Rattle.std.proofs.Math.Path.{refl, ap}
-use Rattle.std.proofs.Common.{◌∙◌}
-use Rattle.octets.specs.Number.{to_be}
-use Rattle.folds.specs.declared.Found.{Found}
-use Rattle.folds.specs.declared.Found.TheVariants.{At, Nothing}
-use Rattle.rules.specs.Rule.{Rule, rule, first, first_append}
-use Rattle.drives.specs.declared.Came.{Came}
-use Rattle.drives.specs.Table.{drive_of}
+-- Today's answers and checks as 01 has them.
+use Prim.Native.Nat.{ℕ}
+use Rattle.std.specs.Prelude.{List}
+use Rattle.std.proofs.Math.Bool.{cond}
+use Rattle.rules.specs.Rule.{rule}
 use Rattle.sense.specs.declared.Answer.{Answer}
 use Rattle.sense.specs.Answers.{number_of}
-use Rattle.sense.specs.Sense.{sense_of, absent_sense, nested_sense}
-use Rattle.command.specs.Command.{source_of}
+use Rattle.sense.specs.Sense.{sense_of}
 use Rattle.meaning.specs.declared.Fault.{Fault}
-use Rattle.meaning.specs.declared.Fault.TheVariants.{Clear, Failed, Beyond}
-use Rattle.meaning.specs.Sources.{drive_bad, entry_bad, or_next, first_bad}
 use Rattle.meaning.specs.Checks.{Check, is_fault, fault_answer}
 use Rattle.frozen.specs.Image as old
 use Rattle.frozen.specs.Answers as told
 use Rattle.frozen.specs.Commands as was
-use Rattle.frozen.specs.Alike.{geo}
 
 -- an answer's number and bytes
 abbrev pub bytes_of : Answer → told.Answer
@@ -30,40 +19,7 @@ bytes_of x = record { number = number_of x; sense = (sense_of x).bytes; len = (s
 abbrev pub forget : Check → was.Check
 forget (rule n w b x) = rule n tt b (bytes_of x)
 
--- 01's list, made of today's, decides as today's does
-pub first_forget : {D : Type 0} (stop : ℕ → Unit {0} → told.Answer → D) (rs : List Check) (d : D)
-    → first stop (map forget rs) d ≡ first (λ n w x. stop n tt (bytes_of x)) rs d
-first_forget stop [] d = refl
-first_forget stop (rule n w b x ∷ rs) d = ap (cond b (stop n tt (bytes_of x))) (first_forget stop rs d)
-
--- what is made of a decision is made of each stop, and of what stands where none decides
-pub first_view : {P A D E : Type 0} (v : D → E) (stop : ℕ → P → A → D) (rs : List (Rule P A)) (d : D) → v (first stop rs d) ≡ first (λ n w x. v (stop n w x)) rs (v d)
-first_view v stop [] d = refl
-first_view v stop (rule n w true x ∷ rs) d = refl
-first_view v stop (rule n w false x ∷ rs) d = first_view v stop rs d
-
--- ---- the source entries: 01's three checks of each, one after the other, are today's one check of the first that fails
-
 module _ {D : Type 0} (stop : ℕ → Unit {0} → told.Answer → D) (m : List ℕ) (h : old.Header) (n : ℕ) where
   -- what a fault decides, and where there is none d
   abbrev pub by_fault : Fault → D → D
   by_fault f d = cond (is_fault f) (stop 10 tt (bytes_of (fault_answer f))) d
-
-  entry : (i b : ℕ) (x : Found) (f : Fault) (d : D) → first stop (was.entry_checks m h n b x) (by_fault f d) ≡ by_fault (or_next (drive_bad m (geo h) n i b x) f) d
-  unfolding drive_bad absent_sense nested_sense to_be
-  entry i b Nothing f d = refl
-  entry i b (At k) f d = pick (old.failed m h k) (ltb h.B (b + n))
-    where
-      pick : (p q : Bool) → cond p (stop 10 tt (told.nested 0x02 0x04)) (cond q (stop 10 tt (told.nested 0x05 0x21)) (by_fault f d))
-          ≡ by_fault (or_next (cond p (Failed i k) (cond q (Beyond i) Clear)) f) d
-      pick true q = refl
-      pick false true = refl
-      pick false false = refl
-
-  pub sources_alike : (a : Came) (s : List ℕ) (i left : ℕ) (d : D) → first stop (was.source_checks m h s n i left) d ≡ by_fault (first_bad m (geo h) a s n i left) d
-  unfolding was.source_checks first_bad entry_bad source_of drive_of
-  sources_alike a s i zero d = refl
-  sources_alike a s i (suc left) d =
-      first_append stop (was.entry_checks m h n (was.source_block s i) (old.drive_of m h (was.source_address s i))) (was.source_checks m h s n (i + 1) left) d
-      ∙ ap (first stop (was.entry_checks m h n (was.source_block s i) (old.drive_of m h (was.source_address s i)))) (sources_alike a s (i + 1) left d)
-      ∙ entry i (was.source_block s i) (old.drive_of m h (was.source_address s i)) (first_bad m (geo h) a s n (i + 1) left) d

@@ -12,7 +12,7 @@ use Rattle.octets.specs.Operands.{xor_all, xor_all_one, xor_all_append}
 use Rattle.geometry.specs.declared.Geometry.{Geometry}
 use Rattle.command.specs.Command.{source_of}
 use Rattle.meaning.specs.Acts.{start_of, source_blocks, sources_from, int_data, gathered}
-use Rattle.meaning.specs.Lengths.{gathered_long}
+use Rattle.meaning.proofs.Lengths.{gathered_long}
 use Rattle.gather.specs.declared.Job.{Job}
 use Rattle.gather.specs.Job.{size, summed, Ready}
 use Rattle.gather.specs.Pieces.{entries_from, in_image, int_piece}

@@ -10,7 +10,7 @@ use borrow.Author.Tests.{eqb-false, ltb-false}
 use Rattle.folds.specs.declared.Found.{Found}
 use Rattle.folds.specs.declared.Found.TheVariants.{At, Nothing}
 use Rattle.folds.specs.Cases.{same}
-use Rattle.folds.specs.Least.{least_nothing}
+use Rattle.folds.proofs.Least.{least_nothing}
 use Rattle.geometry.specs.declared.Geometry.{Geometry}
 use Rattle.drives.specs.declared.Came.{Came}
 use Rattle.drives.specs.Table.{source_drive, failed}

@@ -3,14 +3,16 @@ use Rattle.std.specs.Prelude.{ℕ, List, ◌≡◌, get_or}
 use Rattle.std.proofs.Common.{sym, subst, ◌∙◌}
 use Rattle.std.proofs.lemmas.Bool.{not-false}
 use Rattle.folds.specs.declared.Found.TheVariants.{At}
-use Rattle.rules.specs.Rule.{AllPass, passed}
+use Rattle.rules.specs.Rule.{AllPass}
+use Rattle.rules.proofs.Rule.{passed}
 use Rattle.folds.specs.Least.{index}
 use Rattle.geometry.specs.declared.Geometry.{Geometry}
 use Rattle.geometry.specs.Header.{geometry_of}
 use Rattle.drives.specs.declared.Came.{Came}
 use Rattle.drives.specs.Table.{target_of}
 use Rattle.drives.specs.Lookup.{drive_inside}
-use Rattle.image.specs.Shelf.{Shelf, shelf}
+use Rattle.image.specs.Shelf.{Shelf}
+use Rattle.image.proofs.Shelf.{shelf}
 use Rattle.sense.specs.declared.Answer.{Answer}
 use Rattle.sense.specs.declared.Answer.TheVariants.{Good}
 use Rattle.command.specs.declared.Op.{Op}

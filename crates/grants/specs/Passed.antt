@@ -5,7 +5,8 @@ use Rattle.std.proofs.lemmas.Bool.{eqb-false, not-false}
 use Rattle.folds.specs.declared.Found.{Found}
 use Rattle.folds.specs.declared.Found.TheVariants.{At, Nothing}
 use Rattle.folds.specs.Least.{index}
-use Rattle.rules.specs.Rule.{rule, AllPass, pass_both}
+use Rattle.rules.specs.Rule.{rule, AllPass}
+use Rattle.rules.proofs.Rule.{pass_both}
 use Rattle.geometry.specs.declared.Geometry.{Geometry}
 use Rattle.drives.specs.declared.Came.{Came}
 use Rattle.sense.specs.declared.Answer.TheVariants.{Good, WrongCount}

@@ -1,7 +1,8 @@
 -- Why a command was decided as it was: the check that a stop names applies, and no check before it does.
 use Rattle.std.specs.Prelude.{ℕ, List, ◌≡◌, get_or}
 use Rattle.std.proofs.Common.{sym, ◌∙◌}
-use Rattle.rules.specs.Reason.{Reason, reason}
+use Rattle.rules.specs.Reason.{Reason}
+use Rattle.rules.proofs.Reason.{reason}
 use Rattle.drives.specs.declared.Came.{Came}
 use Rattle.sense.specs.declared.Answer.{Answer}
 use Rattle.sense.specs.declared.Answer.TheVariants.{Good}

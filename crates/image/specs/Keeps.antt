@@ -15,9 +15,9 @@ use Rattle.slots.specs.Find.{empty_slot}
 use Rattle.slots.specs.Change.{released, dropped}
 use Rattle.slots.specs.Kept.{slot_bytes, put_outside, kept_ok}
 use Rattle.results.specs.Results.{Result, Sound, with_result}
-use Rattle.results.specs.Retain.{length_retained, retain_away, retain_ok}
-use Rattle.results.specs.Release.{length_released, release_part, release_ok}
-use Rattle.results.specs.Drop.{length_dropped, drop_part, drop_ok}
+use Rattle.results.proofs.Retain.{length_retained, retain_away, retain_ok}
+use Rattle.results.proofs.Release.{length_released, release_part, release_ok}
+use Rattle.results.proofs.Drop.{length_dropped, drop_part, drop_ok}
 use Rattle.image.specs.Shelf.{Shelf, shelf_frame, shelf_kept}
 
 module _ (s : List ℕ) (g : Geometry) (h : Shelf s g) where

@@ -25,7 +25,8 @@ use Rattle.results.specs.Lists.{keeping}
 use Rattle.results.specs.Results.{Result, results}
 use Rattle.results.specs.Ages.{ages_to, slot_ranked}
 use Rattle.image.specs.Valid.{valid_image}
-use Rattle.image.specs.Bench.{four, zeros, shelf_of, bench, fresh, result, bench_shape, bench_shelf}
+use Rattle.image.specs.Bench.{four, zeros, shelf_of, bench, fresh, result, bench_shape}
+use Rattle.image.proofs.Bench.{bench_shelf}
 use Rattle.command.specs.Lossless.{cdb_of}
 use Rattle.sums.specs.Row.{counts, summed_to, row_sum}
 use Rattle.sums.specs.Share.{share}

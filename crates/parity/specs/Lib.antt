@@ -1,11 +1,9 @@
 pub mod Ledger
 pub mod Owed
 pub mod Waiting
-pub mod OneAct
 pub mod OneCall
 pub mod AnyStep
 pub mod Restores
-pub mod Demand
 pub mod Example
 pub mod Once
 pub mod Published

@@ -7,7 +7,7 @@ use Rattle.std.proofs.Math.Dec.{ltb}
 use Rattle.folds.specs.declared.Found.TheVariants.{At, Nothing}
 use Rattle.folds.specs.Cases.{either, on_test, order, last_or_below}
 use Rattle.folds.specs.Every.{every, holds, every_of}
-use Rattle.folds.specs.Least.{at_nothing, at_same}
+use Rattle.folds.proofs.Least.{at_nothing, at_same}
 use Rattle.geometry.specs.declared.Geometry.{Geometry}
 use Rattle.slots.specs.declared.Best.{Best}
 use Rattle.slots.specs.Record.{slot_of}

@@ -9,10 +9,6 @@ pub mod Members
 pub mod Results
 pub mod Retain
 pub mod Lowered
-pub mod Release
 pub mod Drop
-pub mod Kept
 pub mod Best
 pub mod Newest
-pub mod Full
-pub mod Passing

@@ -1,7 +1,8 @@
 -- The slot of a rank, where the slots are right, and the list by age that these make.
 use Rattle.std.specs.Prelude.{ℕ, zero, suc, ◌+◌, ◌<◌, true, false, ◌≡◌, refl, List, ◌∷◌}
 use Rattle.std.proofs.Common.{add-one, arith, sym, ap, ap₂, ◌∙◌}
-use Rattle.folds.specs.Least.{index, least_only, least_ext}
+use Rattle.folds.specs.Least.{index}
+use Rattle.folds.proofs.Least.{least_only, least_ext}
 use Rattle.geometry.specs.declared.Geometry.{Geometry}
 use Rattle.slots.specs.declared.Slot.{Slot}
 use Rattle.slots.specs.Record.{is_used}

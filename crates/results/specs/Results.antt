@@ -1,21 +1,16 @@
 -- The retained results of an image as a list by age, newest first.
-use Rattle.std.specs.Prelude.{ℕ, ◌*◌, ◌<◌, true, ◌≡◌, length}
+use Rattle.std.specs.Prelude.{ℕ, ◌*◌, ◌≡◌, length}
 use Rattle.std.proofs.Common.{ap, ◌∙◌}
-use mathlib.Core.List.Memᴰ
-use mathlib.Core.List.{List, map, Memᴰ}
-use Rattle.octets.specs.Part.{part, length_part}
+use mathlib.Core.List.{List, map}
+use Rattle.octets.specs.Part.{part}
 use Rattle.geometry.specs.declared.Geometry.{Geometry}
 use Rattle.geometry.specs.Header.{data_at}
-use Rattle.geometry.specs.Frame.{Framed}
-use Rattle.geometry.specs.Places.{data_in}
 use Rattle.slots.specs.declared.Slot.{Slot}
 use Rattle.slots.specs.Record.{slot_of}
 use Rattle.slots.specs.RecordLaws.{ranked}
-use Rattle.slots.specs.Slots.{used_count, slots_ok}
-use Rattle.slots.specs.Facts.{Fits, Used, right}
+use Rattle.slots.specs.Facts.{Fits}
 use Rattle.slots.specs.Change.{entry, retained}
 use Rattle.results.specs.Ages.{ages}
-use Rattle.results.specs.Members.{ages_in}
 
 -- a result of len blocks of a drive from a block on
 pub record Result : Type 0 where
@@ -57,21 +52,3 @@ pub result_same : (m m' : List ℕ) (g : Geometry) (i q : ℕ) → slot_of m' g 
     → part m' (data_at g i) ((slot_of m g i).len * g.l) ≡ part m (data_at g i) ((slot_of m g i).len * g.l) → result_at m' g i ≡ result_at m g i
 unfolding result_at
 result_same m m' g i q e d = ap (λ (t : Slot). slot_result t (part m' (data_at g i) (t.len * g.l))) e ∙ ap (slot_result (slot_of m g i)) d
-
--- what a right image retains is sound
-module _ (m : List ℕ) (g : Geometry) (f : Framed m g) (ok : slots_ok m g ≡ true) where
-  slot_sound : (i : ℕ) → i < g.s → Used g (used_count m g) (slot_of m g i) → Sound g (result_at m g i)
-  unfolding result_at
-  slot_sound i l w =
-      record {
-        fits = w.fits;
-        exact = length_part m (data_at g i) ((slot_of m g i).len * g.l) (data_in m g i (slot_of m g i).len f l w.fits.len_high);
-      }
-
-  pub results_sound : (r : Result) → Memᴰ r (results m g) → Sound g r
-  unfolding results
-  results_sound r q =
-      let w = Memᴰ.of_map (result_at m g) (by_age m g) q in
-      let h = right m g ok in
-      let b = ages_in g (slot_of m g) h w.0 w.1 in
-      rw (← w.2) (slot_sound w.0 b.0 (h.used w.0 b.0 b.1))

@@ -7,7 +7,8 @@ use Rattle.geometry.specs.declared.Geometry.{Geometry}
 use Rattle.geometry.specs.Header.{geometry_of}
 use Rattle.geometry.specs.Frame.{Framed}
 use Rattle.image.specs.Valid.{valid_image}
-use Rattle.image.specs.Shelf.{shelf, shelf_frame}
+use Rattle.image.specs.Shelf.{shelf_frame}
+use Rattle.image.proofs.Shelf.{shelf}
 use Rattle.sums.specs.Row.{is_open}
 use Rattle.text.specs.Decimal.{decimal, decimal_short}
 use Rattle.text.specs.Room.{fitted, fitted_count, fitted_text}

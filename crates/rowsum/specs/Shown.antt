@@ -21,7 +21,8 @@ use Rattle.geometry.specs.declared.Geometry.{Geometry}
 use Rattle.geometry.specs.Header.{geometry_of}
 use Rattle.geometry.specs.Frame.{Framed}
 use Rattle.image.specs.Valid.{valid_image}
-use Rattle.image.specs.Shelf.{shelf, shelf_frame}
+use Rattle.image.specs.Shelf.{shelf_frame}
+use Rattle.image.proofs.Shelf.{shelf}
 use Rattle.sums.specs.Row.{row_sum, is_open}
 use Rattle.sums.specs.Length.{length_sum}
 use Rattle.text.specs.Ascii.{ascii, cut_unique}

@@ -5,7 +5,8 @@ use Rattle.std.proofs.Common.{◌∙◌}
 use mathlib.Core.List.{List, [], ◌∷◌}
 use borrow.Author.Tests.{lt-ltb, le-ltb}
 use Rattle.folds.specs.declared.Found.TheVariants.{At}
-use Rattle.rules.specs.Rule.{rule, first, first_append}
+use Rattle.rules.specs.Rule.{rule, first}
+use Rattle.rules.proofs.Rule.{first_append}
 use Rattle.geometry.specs.declared.Geometry.{Geometry}
 use Rattle.geometry.specs.Header.{geometry_of}
 use Rattle.drives.specs.declared.Came.{Came}

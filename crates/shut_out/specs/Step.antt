@@ -11,7 +11,8 @@ use Rattle.meaning.specs.Examples.Row.{Showed, Row, got, quiet}
 use Rattle.meaning.specs.Examples.Cases.{xdwrite, xdwrite_to, ten, list_cdb, head, source_bytes, room, table}
 use Rattle.meaning.specs.Examples.Several.{several, start, pair, empty, letter, keep, twice, again}
 use Rattle.meaning.specs.Examples.Further as further
-use Rattle.meaning.specs.Examples.Tables.{Hold, cases, several_cases, further_cases}
+use Rattle.meaning.specs.Examples.Tables.{Hold}
+use Rattle.meaning.proofs.Examples.Tables.{cases, several_cases, further_cases}
 use Rattle.meaning.specs.Stepped.{Stepped}
 
 -- ---- the calls to tell them by

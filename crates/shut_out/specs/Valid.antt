@@ -2,7 +2,8 @@
 use Rattle.std.specs.Prelude.{Bool, true, false, ◌≡◌, set}
 use Rattle.std.proofs.Common.{true≢false, sym, ◌∙◌}
 use Rattle.image.specs.Valid.{valid_image}
-use Rattle.image.specs.Bench.{bench, bench_valid, spoilt_not}
+use Rattle.image.specs.Bench.{bench}
+use Rattle.image.proofs.Bench.{bench_valid, spoilt_not}
 
 -- it refuses everything: the bench shelf
 pub refusing_not : false ≡ valid_image bench → ⊥

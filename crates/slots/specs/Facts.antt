@@ -7,7 +7,7 @@ use Rattle.folds.specs.Cases.{either, same, apart as differ}
 use Rattle.folds.specs.Every.{every, holds, every_of}
 use Rattle.folds.specs.All.{all_at, all_intro}
 use Rattle.folds.specs.declared.Found.TheVariants.{At}
-use Rattle.folds.specs.Least.{least_inside}
+use Rattle.folds.proofs.Least.{least_inside}
 use Rattle.rules.specs.Must.{tests_of}
 use Rattle.geometry.specs.declared.Geometry.{Geometry}
 use Rattle.geometry.specs.Places.{Range}

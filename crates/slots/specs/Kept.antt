@@ -8,7 +8,7 @@ use Rattle.octets.specs.Put.{put}
 use Rattle.octets.specs.PutPut.{part_put_apart}
 use Rattle.folds.specs.All.{all_ext}
 use Rattle.folds.specs.Count.{count_ext}
-use Rattle.folds.specs.Least.{least_ext}
+use Rattle.folds.proofs.Least.{least_ext}
 use Rattle.geometry.specs.declared.Geometry.{Geometry}
 use Rattle.geometry.specs.Header.{slot_size, slot_at, data_at}
 use Rattle.geometry.specs.Frame.{Placed}

@@ -1,6 +1,6 @@
 -- `decide::called` meets its contract.
 use mathlib.Core.Path.{sym, ◌∙◌}
-use Rattle.image.specs.Shelf.{valid_long, valid_framed}
+use Rattle.image.proofs.Shelf.{valid_long, valid_framed}
 use Rattle.decide.specs.Called.{called_bad, called_none, called_at}
 use Rattle.decide.proofs.called.Goals as goal
 

@@ -2,7 +2,7 @@
 use mathlib.Core.Path.{refl, sym, ◌∙◌}
 use borrow.Author.Tests.{eq-eqb, ne_eqb}
 use Rattle.folds.specs.Tests.{tests}
-use Rattle.folds.specs.Least.{at_nothing}
+use Rattle.folds.proofs.Least.{at_nothing}
 use Rattle.drives.specs.Lookup.{drive_inside}
 use Rattle.command.specs.Command.{sec_of, ndisc_of}
 use Rattle.decide_two.specs.Stages.{xdwrite_of}

@@ -2,7 +2,7 @@
 use mathlib.Core.Path.{sym, ◌∙◌}
 use native.Mathlib.Omega.{arith}
 use borrow.Author.Tests.{eq-eqb, ne_eqb}
-use Rattle.folds.specs.Least.{least_start, least_more, least_stop, least_done}
+use Rattle.folds.proofs.Least.{least_start, least_more, least_stop, least_done}
 use Rattle.drives.specs.Table.{drive_of}
 use Rattle.drives.proofs.find_drive.Goals as goal
 

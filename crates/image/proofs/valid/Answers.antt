@@ -5,7 +5,7 @@ use Rattle.folds.specs.Tests.{cond_self}
 use Rattle.geometry.specs.Frame.{framed, framed_long, Framed}
 use Rattle.drives.specs.Table.{table_ok}
 use Rattle.slots.specs.Slots.{slots_ok}
-use Rattle.image.specs.Shelf.{valid_is}
+use Rattle.image.proofs.Shelf.{valid_is}
 use Rattle.image.proofs.valid.Goals as goal
 
 pub returns-then-not-framed : goal.returns-then-not-framed

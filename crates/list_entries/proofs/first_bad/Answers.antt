@@ -11,7 +11,8 @@ use lib.Dec.{eqb}
 use borrow.Author.Rules.{rules}
 use borrow.Author.Tests.{eq-eqb, ne_eqb}
 use Rattle.folds.specs.declared.Found.TheVariants.{At, Nothing}
-use Rattle.folds.specs.Least.{least_below, least_start, least_more, least_stop, least_done}
+use Rattle.folds.specs.Least.{least_below}
+use Rattle.folds.proofs.Least.{least_start, least_more, least_stop, least_done}
 use Rattle.drives.specs.declared.Came.{Came}
 use Rattle.drives.specs.Table.{address_of, drive_of}
 use Rattle.meaning.specs.declared.Fault.{Fault}

@@ -1,7 +1,7 @@
 -- `list_entries::own_entry` meets its contract.
 use mathlib.Core.Path.{◌∙◌}
 use native.Mathlib.Omega.{arith}
-use Rattle.folds.specs.Least.{least_start, least_more, least_stop, least_done}
+use Rattle.folds.proofs.Least.{least_start, least_more, least_stop, least_done}
 use Rattle.meaning.specs.Sources.{own_entry}
 use Rattle.list_entries.specs.Turns.{own_is}
 use Rattle.list_entries.proofs.own_entry.Goals as goal

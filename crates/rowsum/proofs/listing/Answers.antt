@@ -1,6 +1,6 @@
 -- `rowsum::listing` meets its contract.
 use mathlib.Core.Path.{sym, ◌∙◌}
-use Rattle.image.specs.Shelf.{valid_long, valid_framed}
+use Rattle.image.proofs.Shelf.{valid_long, valid_framed}
 use Rattle.rowsum.specs.Whole.{text_shelf, text_none}
 use Rattle.rowsum.proofs.listing.Goals as goal
 

@@ -3,7 +3,7 @@ use mathlib.Core.Path.{sym, ap, ◌∙◌}
 use mathlib.Core.Bool.{Bool, not}
 use borrow.Author.Rules.{rules}
 use borrow.Author.Tests.{eq-eqb, ne_eqb}
-use Rattle.folds.specs.Least.{least_start, least_more, least_stop, least_done}
+use Rattle.folds.proofs.Least.{least_start, least_more, least_stop, least_done}
 use Rattle.slots.specs.declared.Slot.{Slot}
 use Rattle.slots.specs.Record.{is_used}
 use Rattle.slots.specs.Find.{empty_slot}

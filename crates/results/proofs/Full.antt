@@ -6,13 +6,13 @@ use Rattle.std.proofs.Math.ListN.{length-map}
 use borrow.Author.Tests.{not-false}
 use Rattle.folds.specs.declared.Found.TheVariants.{Nothing}
 use Rattle.folds.specs.Count.{count_all}
-use Rattle.folds.specs.Least.{least_nothing}
+use Rattle.folds.proofs.Least.{least_nothing}
 use Rattle.geometry.specs.declared.Geometry.{Geometry}
 use Rattle.slots.specs.Record.{slot_of, is_used}
 use Rattle.slots.specs.Slots.{used_count, slots_ok}
 use Rattle.slots.specs.Facts.{right}
 use Rattle.slots.specs.Find.{empty_slot}
-use Rattle.results.specs.Members.{length_ages}
+use Rattle.results.proofs.Members.{length_ages}
 use Rattle.results.specs.Results.{result_at, by_age, results}
 
 module _ (s : List ℕ) (g : Geometry) (ok : slots_ok s g ≡ true) where

@@ -8,7 +8,7 @@ use Rattle.geometry.specs.Header.{geometry_of, framed_ok, end_of}
 use Rattle.geometry.specs.Frame.{framed_exact}
 use Rattle.geometry.specs.Kept.{front_geometry}
 use Rattle.image.specs.Valid.{valid_image}
-use Rattle.image.specs.Shelf.{valid_is, shelf}
+use Rattle.image.proofs.Shelf.{valid_is, shelf}
 
 -- shorter than a header, the empty string included
 pub short_not : (s : List ℕ) → length s < 32 → valid_image s ≡ false

@@ -23,8 +23,9 @@ use Rattle.slots.specs.Stored.{slot_zeroed, slot_other}
 use Rattle.results.specs.Lists.{map_keeping}
 use Rattle.results.specs.Ages.{without}
 use Rattle.results.specs.Lower.{lower_rank, lower_slot, lower_below}
-use Rattle.results.specs.Gone.{Lost, gone_right, gone_ages}
-use Rattle.results.specs.Members.{ages_in}
+use Rattle.results.specs.Gone.{Lost}
+use Rattle.results.proofs.Gone.{gone_right, gone_ages}
+use Rattle.results.proofs.Members.{ages_in}
 use Rattle.results.specs.Results.{result_at, by_age, results, result_same}
 use Rattle.results.specs.Lowered.{length_lowered, lowered_part, lowered_below}
 

@@ -14,9 +14,11 @@ use Rattle.octets.specs.Xor.{◌⊻◌}
 use Rattle.octets.specs.Operands.{xor_all, xor_all_perm}
 use Rattle.folds.specs.declared.Found.{Found}
 use Rattle.folds.specs.declared.Found.TheVariants.{At, Nothing}
-use Rattle.folds.specs.Least.{least_below, least_inside, least_nothing, index}
+use Rattle.folds.specs.Least.{least_below, index}
+use Rattle.folds.proofs.Least.{least_inside, least_nothing}
 use Rattle.folds.specs.Cases.{same}
-use Rattle.rules.specs.Rule.{rule, applies, first, first_cases}
+use Rattle.rules.specs.Rule.{rule, applies, first}
+use Rattle.rules.proofs.Rule.{first_cases}
 use Rattle.geometry.specs.declared.Geometry.{Geometry}
 use Rattle.geometry.specs.Header.{geometry_of}
 use Rattle.geometry.specs.Stores.{stored}

@@ -4,7 +4,7 @@ use Rattle.std.proofs.Common.{arith, sym, ap, ◌∙◌}
 use mathlib.Core.List.Permᴰ
 use mathlib.Core.List.{List, ◌∷◌, Permᴰ}
 use Rattle.folds.specs.Each.{EachIs, each_append, each_both, each_implies, perm_each}
-use Rattle.folds.specs.Least.{at_same}
+use Rattle.folds.proofs.Least.{at_same}
 use Rattle.geometry.specs.declared.Geometry.{Geometry}
 use Rattle.geometry.specs.Frame.{Framed}
 use Rattle.drives.specs.declared.Came.{Came}
@@ -20,7 +20,7 @@ use Rattle.callers.specs.Sources.{source_at}
 use Rattle.divided.specs.InParts.{Sent, ours, IsGood, rebuilding, WellSaid, First, Fetched, Second, SameMedia, together, Ready}
 use Rattle.divided.specs.Carried.{rebuilt}
 use Rattle.divided.specs.Said.{rebuild_asks}
-use Rattle.divided.specs.Strings.{first_done, second_done, in_one}
+use Rattle.divided.proofs.Strings.{first_done, second_done, in_one}
 
 module _ (g : Geometry) (m m' m'' : List ℕ) (x y z : Sent) (t u b c n : ℕ) (es fs zs : List Source) (int : ℕ) (d ys : List ℕ) (a : Came) (flags count : ℕ) (r : List ℕ)
     (p : First ours m g x t b n es int d) (q : Fetched ours (ours m x).image m' g y t b n ys) (v : Second ours m'' g z u c n fs ys) (w : SameMedia m m'' g)

@@ -15,7 +15,8 @@ use Rattle.geometry.specs.Header.{blocks_at}
 use Rattle.drives.specs.declared.Came.{Came}
 use Rattle.drives.specs.Lookup.{drive_found}
 use Rattle.results.specs.First.{first_of, first_hit}
-use Rattle.results.specs.Newest.{answers, answers_own}
+use Rattle.results.specs.Newest.{answers}
+use Rattle.results.proofs.Newest.{answers_own}
 use Rattle.results.specs.Results.{results}
 use Rattle.command.specs.declared.Source.{Source}
 use Rattle.meaning.specs.Acts.{named_blocks}

@@ -20,11 +20,13 @@ use Rattle.command.specs.declared.Source.{Source}
 use Rattle.callers.specs.Lists.{source}
 use Rattle.callers.specs.Operands.{operands}
 use Rattle.divided.specs.InParts.{Sent, ours, IsGood, Asks, medium_of, SameMedia, together, Adjoining, onward, Strung, StrungOf, Chain, JoinsByRanges}
-use Rattle.divided.specs.Adjoin.{Within, all_within, all_bytes}
+use Rattle.divided.specs.Adjoin.{Within}
+use Rattle.divided.proofs.Adjoin.{all_within, all_bytes}
 use Rattle.divided.specs.Carried.{Rebuilt, rebuilt}
 use Rattle.divided.specs.Media.{other_medium, blocks_upto, medium_put, medium_long, then_same}
-use Rattle.divided.specs.Parts.{SameButOne, same_after, sum_part}
-use Rattle.divided.specs.Strings.{second_done, sum_is}
+use Rattle.divided.specs.Parts.{SameButOne}
+use Rattle.divided.proofs.Parts.{same_after, sum_part}
+use Rattle.divided.proofs.Strings.{second_done, sum_is}
 use Rattle.divided.specs.Fill.{Stands, infill, fills_under, all_stand, Filling, Trail, ends, then, Filled, all_filled}
 
 -- all sources, moved along

@@ -22,9 +22,11 @@ use Rattle.meaning.specs.Lengths.{home_range}
 use Rattle.callers.specs.Does.{blocks}
 use Rattle.callers.specs.Operands.{operands}
 use Rattle.divided.specs.InParts.{ours, IsGood, leaving, rebuilding, Adjoining, Cut, onward, CutOf, left, EachGood, CutFree}
-use Rattle.divided.specs.Adjoin.{Within, adjoining_end, all_within, all_bytes}
+use Rattle.divided.specs.Adjoin.{Within}
+use Rattle.divided.proofs.Adjoin.{adjoining_end, all_within, all_bytes}
 use Rattle.divided.specs.Carried.{Rebuilt, rebuilt}
-use Rattle.divided.specs.Parts.{SameButOne, same_after, sum_part}
+use Rattle.divided.specs.Parts.{SameButOne}
+use Rattle.divided.proofs.Parts.{same_after, sum_part}
 use Rattle.divided.specs.Fill.{Stands, infill, fills_under, all_stand, Filling, Trail, ends, then, Filled, all_filled}
 use Rattle.divided.specs.Whole.{whole}
 

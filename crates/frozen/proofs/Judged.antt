@@ -15,7 +15,7 @@ use Rattle.slots.specs.Slots.{slot_ok, used_count, has_rank, new_rank, slots_ok}
 use Rattle.slots.specs.Facts.{used_facts, empty_is, Right, right, right_ok}
 use Rattle.slots.specs.Ranks.{has_rank_lem, not_rank, ranked_some}
 use Rattle.image.specs.Valid.{valid_image}
-use Rattle.image.specs.Shelf.{valid_is}
+use Rattle.image.proofs.Shelf.{valid_is}
 use Rattle.frozen.specs.Image as old
 
 -- ---- the drive table

@@ -11,7 +11,7 @@ use Rattle.slots.specs.Kept.{slot_bytes, kept_slot, kept_data, kept_count, kept_
 use Rattle.results.specs.Lists.{map_same}
 use Rattle.results.specs.Ages.{ages_to, ages}
 use Rattle.results.specs.Ranks.{ranked_same, ages_same}
-use Rattle.results.specs.Members.{ages_in}
+use Rattle.results.proofs.Members.{ages_in}
 use Rattle.results.specs.Results.{result_at, by_age, results, result_same}
 
 module _ (s t : List ℕ) (g : Geometry) (p : Placed g) (e : slot_bytes t g ≡ slot_bytes s g) where

@@ -21,9 +21,10 @@ use Rattle.slots.specs.Find.{empty_slot, newest_of}
 use Rattle.slots.specs.Facts.{empty_inside}
 use Rattle.slots.specs.Change.{released}
 use Rattle.results.specs.First.{sans_first, sans_hit}
-use Rattle.results.specs.Newest.{answers, answers_own}
+use Rattle.results.specs.Newest.{answers}
+use Rattle.results.proofs.Newest.{answers_own}
 use Rattle.results.specs.Results.{Result, results, with_result}
-use Rattle.results.specs.Passing.{passing, newest_new}
+use Rattle.results.proofs.Passing.{passing, newest_new}
 use Rattle.image.specs.Shelf.{Shelf, shelf_frame}
 use Rattle.command.specs.declared.Op.TheVariants.{Rebuild}
 use Rattle.command.specs.declared.Source.{Source}
@@ -35,7 +36,7 @@ use Rattle.divided.specs.InParts.{Sent, ours, IsGood, Asks, First, Fetched, Seco
 use Rattle.divided.specs.Between.{after_media}
 use Rattle.divided.specs.Carried.{Regenerated, Rebuilt, rebuilt, xdread_image, xdread_after}
 use Rattle.divided.specs.Media.{other_medium, each_named, medium_put, then_same}
-use Rattle.divided.specs.Strings.{first_done, fetched, second_done, sum_is}
+use Rattle.divided.proofs.Strings.{first_done, fetched, second_done, sum_is}
 
 -- a REBUILD that was answered GOOD leaves header, drive table and slots as they were
 module _ (m : List ℕ) (g : Geometry) (h : Shelf m g) (x : Sent) (u : ℕ) (found : target_of m g x.came ≡ At u) (b n : ℕ) (some : 1 ≤ n) (es : List Source) (int : ℕ) (d : List ℕ)

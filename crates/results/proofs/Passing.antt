@@ -26,9 +26,10 @@ use Rattle.slots.specs.Find.{empty_slot, wanted, newest_of}
 use Rattle.slots.specs.Change.{fall_stores, gone_stores, released}
 use Rattle.slots.specs.Ranks.{used_is}
 use Rattle.slots.specs.Stored.{slot_zeroed, slot_other}
-use Rattle.results.specs.Gain.{gain_count, gain_right}
+use Rattle.results.proofs.Gain.{gain_count, gain_right}
 use Rattle.results.specs.Results.{Result, record_at, with_result, Sound}
-use Rattle.results.specs.Retain.{filled, retain_is, filled_x, gained}
+use Rattle.results.specs.Retain.{filled}
+use Rattle.results.proofs.Retain.{retain_is, filled_x, gained}
 use Rattle.results.specs.Best.{newest_at, newest_nothing}
 
 -- ---- where no rank is higher, none falls

@@ -36,7 +36,8 @@ use Rattle.parity.specs.Owed.{owed, owed_none, owed_nothing, length_owed}
 use Rattle.parity.specs.Waiting.{waiting, waiting_none}
 use Rattle.parity.specs.AnyStep.{the_step, call_by, Start, SumsDiffer, Whole, AllPresent, Overwriting, rebuilt, BringsBack, Restores, Demand}
 use Rattle.parity.specs.Restores.{restored}
-use Rattle.parity.specs.OneCall.{Tallies, SumKept, decision_tallies, decision_sum, resets_tallies, resets_sum, marks_tallies, marks_sum}
+use Rattle.parity.specs.OneCall.{Tallies, SumKept}
+use Rattle.parity.proofs.OneCall.{decision_tallies, decision_sum, resets_tallies, resets_sum, marks_tallies, marks_sum}
 
 module _ (g : Geometry) where
   -- ---- one call

@@ -1,0 +1,12 @@
+pub mod Adjoin
+pub mod Cut
+pub mod Example
+pub mod ExampleRanges
+pub mod Left
+pub mod Needs
+pub mod Order
+pub mod Parts
+pub mod Proved
+pub mod Ranges
+pub mod ShutOut
+pub mod Strings

@@ -1,0 +1,4 @@
+pub mod Alike
+pub mod Judged
+pub mod Lists
+pub mod Today

@@ -1,0 +1,3 @@
+pub mod Shelf
+pub mod Length
+pub mod Bench

@@ -1,0 +1,4 @@
+pub mod OneAct
+pub mod OneCall
+pub mod Demand
+pub mod Published

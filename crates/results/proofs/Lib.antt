@@ -1,0 +1,11 @@
+pub mod Members
+pub mod Drop
+pub mod Gone
+pub mod Kept
+pub mod Newest
+pub mod Release
+pub mod Gain
+pub mod Results
+pub mod Retain
+pub mod Passing
+pub mod Full
