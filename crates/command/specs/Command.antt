@@ -11,8 +11,8 @@ use Rattle.command.specs.declared.Command.{Command}
 use Rattle.command.specs.declared.Source.{Source}
 
 -- 01: "Code | Command"
-abbrev pub op_of1994 : ℕ → Op
-op_of1994 code =
+abbrev pub op_of_1994 : ℕ → Op
+op_of_1994 code =
     cond (eqb code 0xC0) XdWrite
     (cond (eqb code 0xC1) XpWrite
     (cond (eqb code 0xC2) XdRead
@@ -29,7 +29,7 @@ op_of code =
     (cond (eqb code 0x51) XpWrite
     (cond (eqb code 0x52) XdRead
     (cond (eqb code 0x53) XdWriteRead
-    (op_of1994 code))))
+    (op_of_1994 code))))
 
 -- ---- what an operation has
 

@@ -5,7 +5,7 @@
 
 ghost use Rattle.std.specs.Prelude.{◌≡◌, ◌+◌, ◌*◌, ◌<◌, ◌≤◌, length};
 ghost use Rattle.geometry.specs.Frame.{InRange};
-ghost use Rattle.command.specs.Command.{op_of1994, op_of, has, size_of, zero_bits, sixteen_of, ten_of, listed_of, command_of, mirror_of, ndisc_of, sec_of, int_of, list_sec_of, disable_of, Fits, own_of, source_of, resolved_of, list_bytes};
+ghost use Rattle.command.specs.Command.{op_of_1994, op_of, has, size_of, zero_bits, sixteen_of, ten_of, listed_of, command_of, mirror_of, ndisc_of, sec_of, int_of, list_sec_of, disable_of, Fits, own_of, source_of, resolved_of, list_bytes};
 
 use drives::Came;
 use geometry::{Address, Block, Geometry};
@@ -83,7 +83,7 @@ pub fn op_of(code: usize) -> Op
 }
 
 fn op_of_1994(code: usize) -> Op
-    ensures { result ≡ op_of1994 code }
+    ensures { result ≡ op_of_1994 code }
 {
     if code == 0xC0 {
         return Op::XdWrite;

@@ -19,16 +19,16 @@ use Rattle.meaning.specs.declared.Seen.TheVariants.{Cdb, Drive}
 use Rattle.meaning.specs.declared.Decision.TheVariants.{Stop}
 use Rattle.meaning.specs.Checks.{decide_of}
 use Rattle.decide_one.specs.Stages.{roomy_of, plain_stage, limited_stage, read_of, write_of, xpwrite_of, xdread_of, matched_of, answered_of, retained_of, xdwrite_ten_of, xdwriteread_of}
-use Rattle.decide_two.specs.Stages.{check10_of, check10, from_check9, limited_of, xdwrite_of}
+use Rattle.decide_two.specs.Stages.{check_10_of, check10, from_check_9, limited_of, xdwrite_of}
 use Rattle.decide_list.specs.Stages.{fault_or, rebuilt_of, gathered_of, regenerated_of, placed_of, length_of, owned_of, headed_of, list_sized_of, counted_of, fields_of, rebuild_of, regenerate_of}
 use Rattle.decide.specs.Called.{Addressed, addressed_found}
-use Rattle.decide.specs.Stages.{each_of, flagged_of, checked_of, from_check2, from_call3}
+use Rattle.decide.specs.Stages.{each_of, flagged_of, checked_of, from_check_2, from_call_3}
 
 -- ---- each command's stages are its list of checks
 
 module _ (m : List ℕ) (g : Geometry) (t : ℕ) (k : Command) (s : List ℕ) (r : ℕ) where
   as_xdwrite : flagged_of XdWrite m g t k s r ≡ checked_of XdWrite m g t k s r
-  unfolding flagged_of checked_of xdwrite_of limited_of from_check9 retained_of check10 check10_of
+  unfolding flagged_of checked_of xdwrite_of limited_of from_check_9 retained_of check10 check_10_of
   as_xdwrite = ⊎_elim (λ e. rw e) (λ e. rw e) (either (eqb (sec_of k) 3))
 
   as_rebuild : flagged_of Rebuild m g t k s r ≡ checked_of Rebuild m g t k s r
@@ -67,13 +67,13 @@ module _ (m : List ℕ) (g : Geometry) (t : ℕ) (k : Command) (s : List ℕ) (r
 
 module _ (m : List ℕ) (g : Geometry) (a : Came) (t : ℕ) (c s : List ℕ) (r : ℕ) where
   pub check_2_failed : (o : Op) → (size_of o ≡ 0 → ⊥) → length c ≡ size_of o → failed m g t ≡ true
-      → Stop 3 (Drive t) TargetFailed ≡ from_check2 o m g a t c s r
-  unfolding from_check2
+      → Stop 3 (Drive t) TargetFailed ≡ from_check_2 o m g a t c s r
+  unfolding from_check_2
   check_2_failed o z l f = rw (ne_eqb (size_of o) 0 z, eq-eqb (length c) (size_of o) l, f)
 
   pub check_2_on : (o : Op) (k : Command) → k ≡ command_of o a c → (size_of o ≡ 0 → ⊥) → length c ≡ size_of o → failed m g t ≡ false
-      → flagged_of k.op m g t k s r ≡ from_check2 o m g a t c s r
-  unfolding from_check2
+      → flagged_of k.op m g t k s r ≡ from_check_2 o m g a t c s r
+  unfolding from_check_2
   check_2_on o k e z l f =
       let p : k.op ≡ o = ap (λ (x : Command). x.op) e ∙ (command_kept o a c).0 in
       ap (λ (x : Op). flagged_of x m g t k s r) p
@@ -81,10 +81,10 @@ module _ (m : List ℕ) (g : Geometry) (a : Came) (t : ℕ) (c s : List ℕ) (r 
       ∙ ap (λ (x : Command). checked_of o m g t x s r) e
       ∙ sym (rw (ne_eqb (size_of o) 0 z, eq-eqb (length c) (size_of o) l, f))
 
-  pub call_3_on : (o : Op) (b : ℕ) → b ≡ get_or c 0 0 → o ≡ op_of b → (length c ≡ 0 → ⊥) → from_check2 o m g a t c s r ≡ from_call3 m g a t c s r
-  unfolding from_call3
+  pub call_3_on : (o : Op) (b : ℕ) → b ≡ get_or c 0 0 → o ≡ op_of b → (length c ≡ 0 → ⊥) → from_check_2 o m g a t c s r ≡ from_call_3 m g a t c s r
+  unfolding from_call_3
   call_3_on o b e h z = rw (h, e, ne_eqb (length c) 0 z)
 
-  pub decide_on : Addressed m a g t → from_call3 m g a t c s r ≡ decide_of m a c s r
-  unfolding decide_of from_call3 from_check2 checked_of
-  decide_on x = ap (λ (y : Geometry). from_call3 m y a t c s r) x.header ∙ rw (x.valid, addressed_found m a g t x)
+  pub decide_on : Addressed m a g t → from_call_3 m g a t c s r ≡ decide_of m a c s r
+  unfolding decide_of from_call_3 from_check_2 checked_of
+  decide_on x = ap (λ (y : Geometry). from_call_3 m y a t c s r) x.header ∙ rw (x.valid, addressed_found m a g t x)

@@ -36,10 +36,10 @@ flagged_of o m g t k s r = first Stop (zero_flags o k) (each_of o m g t k s r)
 unfoldable pub checked_of : Op → List ℕ → Geometry → ℕ → Command → List ℕ → ℕ → Decision
 checked_of o m g t k s r = first Stop (command_checks o m g t k s r) (acts o m g t k s)
 
-unfoldable pub from_check2 : Op → List ℕ → Geometry → Came → ℕ → List ℕ → List ℕ → ℕ → Decision
-from_check2 o m g a t c s r =
+unfoldable pub from_check_2 : Op → List ℕ → Geometry → Came → ℕ → List ℕ → List ℕ → ℕ → Decision
+from_check_2 o m g a t c s r =
     first Stop (rule 1 Dash (not (is_unknown o) && not (eqb (length c) (size_of o))) BadCdb ∷ known m g t o)
     (checked_of o m g t (command_of o a c) s r)
 
-unfoldable pub from_call3 : List ℕ → Geometry → Came → ℕ → List ℕ → List ℕ → ℕ → Decision
-from_call3 m g a t c s r = first Stop (rule 1 Dash (eqb (length c) 0) BadCdb ∷ []) (from_check2 (op_of (get_or c 0 0)) m g a t c s r)
+unfoldable pub from_call_3 : List ℕ → Geometry → Came → ℕ → List ℕ → List ℕ → ℕ → Decision
+from_call_3 m g a t c s r = first Stop (rule 1 Dash (eqb (length c) 0) BadCdb ∷ []) (from_check_2 (op_of (get_or c 0 0)) m g a t c s r)

@@ -9,7 +9,7 @@ ghost use Rattle.std.specs.Prelude.{◌≡◌, ◌<◌};
 ghost use Rattle.geometry.specs.Frame.{Framed};
 ghost use Rattle.meaning.specs.Checks.{decide_of};
 ghost use Rattle.decide.specs.Called.{called_of};
-ghost use Rattle.decide.specs.Stages.{from_call3, from_check2};
+ghost use Rattle.decide.specs.Stages.{from_call_3, from_check_2};
 
 use command::{Command, Op};
 use drives::Came;
@@ -60,7 +60,7 @@ fn from_call_3(
     room: usize,
 ) -> Decision
     requires { Framed image.now g × (t < g.d) }
-    ensures { result ≡ from_call3 image.now g came t cdb.now sent.now room }
+    ensures { result ≡ from_call_3 image.now g came t cdb.now sent.now room }
 {
     if cdb.len() == 0 {
         return Decision::Stop(1, Seen::Dash, Answer::BadCdb);
@@ -81,7 +81,7 @@ fn from_check_2(
     room: usize,
 ) -> Decision
     requires { Framed image.now g × (t < g.d) }
-    ensures { result ≡ from_check2 op image.now g came t cdb.now sent.now room }
+    ensures { result ≡ from_check_2 op image.now g came t cdb.now sent.now room }
 {
     let size = command::size_of(op);
     if size == 0 {

@@ -15,21 +15,21 @@ use Rattle.meaning.specs.declared.Seen.TheVariants.{Cdb}
 use Rattle.meaning.specs.declared.Decision.TheVariants.{Stop}
 use Rattle.meaning.specs.Checks.{span_of}
 use Rattle.decide_one.specs.Stages.{retained_of}
-use Rattle.decide_two.specs.Stages.{check10_of, check10, from_check9}
+use Rattle.decide_two.specs.Stages.{check_10_of, check10, from_check_9}
 
 module _ (f : Found) (m : List ℕ) (g : Geometry) (t : ℕ) (k : Command) where
   -- Sec Ctl 00 or 10
   module _ (sec : ℕ) (q : sec ≡ sec_of k) (ne : sec ≡ 3 → ⊥) where
-    pub check_9_at : (j : ℕ) (down : Bool) → f ≡ At j → down ≡ failed m g j → check10_of j down g t k ≡ from_check9 f m g t k
-    unfolding from_check9 check10
+    pub check_9_at : (j : ℕ) (down : Bool) → f ≡ At j → down ≡ failed m g j → check_10_of j down g t k ≡ from_check_9 f m g t k
+    unfolding from_check_9 check10
     check_9_at j down e h = rw (e, h, ne_eqb (sec_of k) 3 (λ p. ne (q ∙ p)))
 
-    pub check_9_none : f ≡ Nothing → Stop 10 (Cdb 8) NestedAddress ≡ from_check9 f m g t k
-    unfolding from_check9 check10
+    pub check_9_none : f ≡ Nothing → Stop 10 (Cdb 8) NestedAddress ≡ from_check_9 f m g t k
+    unfolding from_check_9 check10
     check_9_none e = rw (e, ne_eqb (sec_of k) 3 (λ p. ne (q ∙ p)))
 
   -- Sec Ctl 11
   pub check_9_slot : (x : Span) (mirror ndisc : ℕ) → sec_of k ≡ 3 → x ≡ span_of t k → mirror ≡ mirror_of k → ndisc ≡ ndisc_of k
-      → retained_of (empty_slot m g) x mirror ndisc ≡ from_check9 f m g t k
-  unfolding from_check9
+      → retained_of (empty_slot m g) x mirror ndisc ≡ from_check_9 f m g t k
+  unfolding from_check_9
   check_9_slot x mirror ndisc e h p q = rw (eq-eqb (sec_of k) 3 e, h, p, q)

@@ -23,8 +23,8 @@ use Rattle.decide_one.specs.Stages.{retained_of}
 abbrev pub OnShelf : Geometry → Found → Type 0
 OnShelf g f = (j : ℕ) → f ≡ At j → j < g.d
 
-unfoldable pub check10_of : ℕ → Bool → Geometry → ℕ → Command → Decision
-check10_of j down g t k =
+unfoldable pub check_10_of : ℕ → Bool → Geometry → ℕ → Command → Decision
+check_10_of j down g t k =
     first Stop
     (rule 10 (Drive j) down NestedFailed
     ∷ rule 10 (Cdb 11) (ltb g.b (k.spot.0 + k.count)) NestedRange
@@ -32,10 +32,10 @@ check10_of j down g t k =
     (Go (Couple (span_of t k) (record { drive = j; block = k.spot; count = k.count }) (mirror_of k)) Good)
 
 unfoldable pub check10 : Found → List ℕ → Geometry → ℕ → Command → Decision
-check10 f m g t k = first Stop (rule 10 (Cdb 8) (is_nothing f) NestedAddress ∷ []) (check10_of (index f) (failed m g (index f)) g t k)
+check10 f m g t k = first Stop (rule 10 (Cdb 8) (is_nothing f) NestedAddress ∷ []) (check_10_of (index f) (failed m g (index f)) g t k)
 
-unfoldable pub from_check9 : Found → List ℕ → Geometry → ℕ → Command → Decision
-from_check9 f m g t k = cond (eqb (sec_of k) 3) (retained_of (empty_slot m g) (span_of t k) (mirror_of k) (ndisc_of k)) (check10 f m g t k)
+unfoldable pub from_check_9 : Found → List ℕ → Geometry → ℕ → Command → Decision
+from_check_9 f m g t k = cond (eqb (sec_of k) 3) (retained_of (empty_slot m g) (span_of t k) (mirror_of k) (ndisc_of k)) (check10 f m g t k)
 
 -- f is the secondary, own that it is the target
 unfoldable pub limited_of : Bool → Found → List ℕ → Geometry → ℕ → Command → List ℕ → Decision
@@ -47,7 +47,7 @@ limited_of own f m g t k s =
     ++ rule 5 Dash (not (eqb (length s) (k.count * g.l))) WrongCount
     ∷ rule 6 (Cdb 6) (eqb k.count 0) Good
     ∷ in_range (Cdb 2) g k)
-    (from_check9 f m g t k)
+    (from_check_9 f m g t k)
 
 unfoldable pub xdwrite_of : List ℕ → Geometry → ℕ → Command → List ℕ → Decision
 xdwrite_of m g t k s =

@@ -6,7 +6,7 @@
 ghost use Rattle.std.specs.Prelude.{◌≡◌};
 ghost use Rattle.geometry.specs.Frame.{Framed};
 ghost use Rattle.command.specs.Command.{Fits};
-ghost use Rattle.decide_two.specs.Stages.{OnShelf, xdwrite_of, limited_of, from_check9, check10_of};
+ghost use Rattle.decide_two.specs.Stages.{OnShelf, xdwrite_of, limited_of, from_check_9, check_10_of};
 
 use command::Command;
 use folds::Found;
@@ -78,7 +78,7 @@ fn limited(
 // Where the result goes: check 9 of the slot, or check 10 of the secondary.
 fn from_check_9(there: Found, image: &[u8], g: Geometry, t: usize, k: Command) -> Decision
     requires { Framed image.now g × Fits k × OnShelf g there }
-    ensures { result ≡ from_check9 there image.now g t k }
+    ensures { result ≡ from_check_9 there image.now g t k }
 {
     if k.sec() == 3 {
         return decide_one::retained(image, g, decide_one::span(t, k), k.mirror(), k.ndisc());
@@ -92,7 +92,7 @@ fn from_check_9(there: Found, image: &[u8], g: Geometry, t: usize, k: Command) -
 // It is drive j.
 fn check_10(j: usize, failed: bool, g: Geometry, t: usize, k: Command) -> Decision
     requires { Fits k }
-    ensures { result ≡ check10_of j failed g t k }
+    ensures { result ≡ check_10_of j failed g t k }
 {
     let count = k.count;
     let blocks = g.b;

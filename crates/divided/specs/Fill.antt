@@ -2,7 +2,7 @@
 -- written so one after the other.
 use Rattle.std.specs.Prelude.{ℕ, ◌+◌, ◌-◌, ◌*◌, ◌≤◌, ◌<◌, ◌≡◌, List, [], ◌∷◌, length, get_or}
 use Rattle.std.proofs.Common.{arith, ⊎_elim, sym, ap, subst, ◌∙◌, ext_get_or}
-use Rattle.octets.specs.Part.{part, length_part, get_d_part}
+use Rattle.octets.specs.Part.{part, length_part, get_or_part}
 use Rattle.octets.specs.Put.{put, get_or_put_before, get_or_put_after, get_or_put_in}
 use Rattle.octets.specs.PutPut.{put_cover, put_part}
 use Rattle.folds.specs.Cases.{order}
@@ -27,7 +27,7 @@ module _ (at : ℕ) (xs : List ℕ) where
         let f : a + (j - a) ≡ j = omega arith in
         ap (λ (i : ℕ). get_or (infill y a k) i 0) e
         ∙ get_or_put_in y (at + a) (part xs a k) (j - a) (omega arith) (omega (arith, length_part xs a k inside))
-        ∙ get_d_part xs a k (j - a) (omega arith)
+        ∙ get_or_part xs a k (j - a) (omega arith)
         ∙ ap (λ (i : ℕ). get_or xs i 0) f
 
     -- and so does what stood
@@ -46,7 +46,7 @@ module _ (at : ℕ) (xs : List ℕ) where
   all_stand m y room h e =
       let n = length xs in
       let l : length (part y at n) ≡ n = length_part y at n room in
-      let there : part y at n ≡ xs = ext_get_or 0 (part y at n) xs l (λ j i. get_d_part y at n j (omega arith) ∙ h j (omega arith)) in
+      let there : part y at n ≡ xs = ext_get_or 0 (part y at n) xs l (λ j i. get_or_part y at n j (omega arith) ∙ h j (omega arith)) in
       sym (put_part y at n) ∙ ap (put y at) there ∙ e
 
 -- ---- ranges, one after the other

@@ -25,7 +25,7 @@ use Rattle.sense.specs.declared.Outcome.{Outcome}
 use Rattle.sense.specs.Sense.{no_sense, plain_sense, absent_sense, nested_sense}
 use Rattle.command.specs.declared.Op.{Op}
 use Rattle.command.specs.declared.Op.TheVariants.{XdWrite, XpWrite, XdRead, Rebuild, Regenerate, Read, Write, Unknown}
-use Rattle.command.specs.Command.{op_of1994, sixteen_of, ten_of, listed_of, command_of, own_of, resolved_of, list_bytes, source_of}
+use Rattle.command.specs.Command.{op_of_1994, sixteen_of, ten_of, listed_of, command_of, own_of, resolved_of, list_bytes, source_of}
 use Rattle.meaning.specs.declared.Span.{Span}
 use Rattle.meaning.specs.declared.Decision.{Decision}
 use Rattle.meaning.specs.declared.Decision.TheVariants.{Stop, Go}
@@ -194,7 +194,7 @@ module _ (m : List ℕ) (a : ℕ) (c s r : List ℕ) where
   line true o o' p p' e e' = e
   line false o o' p p' e e' = e'
 
-  by_code : (code : ℕ) → Same (op_of1994 code) (was.command_of code m h t c s (length r))
+  by_code : (code : ℕ) → Same (op_of_1994 code) (was.command_of code m h t c s (length r))
   by_code code =
       line (eqb code 0xC0) XdWrite _ (was.xdwrite m h t c s) _ xdwrite
       (line (eqb code 0xC1) XpWrite _ (was.xpwrite m h t c s (length r)) _ plain.2

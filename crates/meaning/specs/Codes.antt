@@ -5,7 +5,7 @@ use Rattle.octets.specs.Part.{part}
 use Rattle.drives.specs.declared.Came.{Came}
 use Rattle.command.specs.declared.Op.{Op}
 use Rattle.command.specs.declared.Op.TheVariants.{XdWrite, XpWrite, XdRead, Rebuild, Regenerate, Read, Write, Unknown}
-use Rattle.command.specs.Command.{Since, Of1994, OfA1, has, op_of1994, op_of, ten_of}
+use Rattle.command.specs.Command.{Since, Of1994, OfA1, has, op_of_1994, op_of, ten_of}
 use Rattle.meaning.specs.Checks.{decide_of}
 
 -- "50h to 53h"
@@ -15,7 +15,7 @@ is_published code = leb 0x50 code && leb code 0x53
 apart : (x y : ℕ) → is_published x ≡ true → is_published y ≡ false → x ≡ y → ⊥
 apart x y p q e = true≢false (sym p ∙ ap is_published e ∙ q)
 
-pub same_op : (code : ℕ) → is_published code ≡ false → op_of code ≡ op_of1994 code
+pub same_op : (code : ℕ) → is_published code ≡ false → op_of code ≡ op_of_1994 code
 unfolding op_of
 same_op code q = rw (no 0x50 refl, no 0x51 refl, no 0x52 refl, no 0x53 refl)
   where
@@ -23,7 +23,7 @@ same_op code q = rw (no 0x50 refl, no 0x51 refl, no 0x52 refl, no 0x53 refl)
     no x p = ne_eqb code x (λ e. apart x code p q (sym e))
 
 -- and 50h to 53h were unknown: no code of 1994 says XDWRITE(10) or XDWRITEREAD(10), so that their checks and acts are none of its own
-pub unknown_then : (code : ℕ) → is_published code ≡ true → op_of1994 code ≡ Unknown
+pub unknown_then : (code : ℕ) → is_published code ≡ true → op_of_1994 code ≡ Unknown
 unknown_then code p = rw (no 0xC0 refl, no 0xC1 refl, no 0xC2 refl, no 0xC3 refl, no 0xC4 refl, no 0x28 refl, no 0x2A refl)
   where
     no : (x : ℕ) → is_published x ≡ false → eqb code x ≡ false
@@ -33,7 +33,7 @@ abbrev pub is_new : Since → Bool
 is_new Of1994 = false
 is_new OfA1 = true
 
-pub none_new : (code : ℕ) → is_new (has (op_of1994 code)).since ≡ false
+pub none_new : (code : ℕ) → is_new (has (op_of_1994 code)).since ≡ false
 none_new code =
     line (eqb code 0xC0) XdWrite _ refl
     (line (eqb code 0xC1) XpWrite _ refl

@@ -2,7 +2,7 @@
 use Rattle.std.specs.Prelude.{◌≡◌, List, [], ◌∷◌, ℕ, ◌+◌, ◌≤◌, ◌<◌, length, get_or}
 use Rattle.std.proofs.Common.{◌∙◌}
 use Rattle.std.specs.Int.Bits.{bit_xor}
-use Rattle.octets.specs.Part.{part, get_d_part, length_part}
+use Rattle.octets.specs.Part.{part, get_or_part, length_part}
 use Rattle.octets.specs.Operands.{xor_all, get_or_xor_all, length_xor_all}
 
 module _ (xs : List ℕ) (a b c d e f g h n : ℕ) where
@@ -27,5 +27,5 @@ module _ (xs : List ℕ) (a b c d e f g h n : ℕ) where
   -- byte i of their XOR
   pub eight_byte : (i : ℕ) → i < n → get_or (xor_all eight_parts) i 0 ≡ bit_xor (get_or xs (a + i) 0) (bit_xor (get_or xs (b + i) 0) (bit_xor (get_or xs (c + i) 0) (bit_xor (get_or xs (d + i) 0) (bit_xor (get_or xs (e + i) 0) (bit_xor (get_or xs (f + i) 0) (bit_xor (get_or xs (g + i) 0) (get_or xs (h + i) 0)))))))
   eight_byte i l =
-      let own : (k : ℕ) → get_or (part xs k n) i 0 ≡ get_or xs (k + i) 0 = (λ k. get_d_part xs k n i l) in
+      let own : (k : ℕ) → get_or (part xs k n) i 0 ≡ get_or xs (k + i) 0 = (λ k. get_or_part xs k n i l) in
       get_or_xor_all _ _ i ∙ rw (own a, own b, own c, own d, own e, own f, own g, own h)

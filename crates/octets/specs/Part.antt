@@ -19,9 +19,9 @@ pub length_part_le : (xs : List ℕ) (at n : ℕ) → length (part xs at n) ≤ 
 unfolding part
 length_part_le xs at n = simp (length-take, length-drop) (omega arith)
 
-pub get_d_part : (xs : List ℕ) (at n j : ℕ) → j < n → get_or (part xs at n) j 0 ≡ get_or xs (at + j) 0
+pub get_or_part : (xs : List ℕ) (at n j : ℕ) → j < n → get_or (part xs at n) j 0 ≡ get_or xs (at + j) 0
 unfolding part
-get_d_part xs at n j h = get_or-take n (drop at xs) j 0 h ∙ get_or-drop at xs j 0
+get_or_part xs at n j h = get_or-take n (drop at xs) j 0 h ∙ get_or-drop at xs j 0
 
 -- a part of a part
 drop_take : (a n : ℕ) (xs : List ℕ) → drop a (take n xs) ≡ take (n - a) (drop a xs)
@@ -87,5 +87,5 @@ part_append_back xs ys n m e d = rw (drop_at xs ys n e, ← d) (take-length ys)
 -- two lists with the same front have the same bytes there
 pub front_byte : (s t : List ℕ) (n : ℕ) → part s 0 n ≡ part t 0 n → (i : ℕ) → i < n → get_or s i 0 ≡ get_or t i 0
 front_byte s t n e i l =
-    let own : (xs : List ℕ) → get_or (part xs 0 n) i 0 ≡ get_or xs i 0 = (λ xs. get_d_part xs 0 n i l ∙ ap (λ (k : ℕ). get_or xs k 0) (zero-add i)) in
+    let own : (xs : List ℕ) → get_or (part xs 0 n) i 0 ≡ get_or xs i 0 = (λ xs. get_or_part xs 0 n i l ∙ ap (λ (k : ℕ). get_or xs k 0) (zero-add i)) in
     sym (own s) ∙ ap (λ (xs : List ℕ). get_or xs i 0) e ∙ own t

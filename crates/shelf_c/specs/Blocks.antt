@@ -8,7 +8,7 @@ use Rattle.std.specs.Int.Bits.{bit_xor}
 use Rattle.std.proofs.Math.ListN.{length-take}
 use Rattle.folds.specs.Cases.{order}
 use Rattle.folds.specs.Each.{EachIs}
-use Rattle.octets.specs.Part.{part, length_part_le, get_d_part, part_whole, part_past}
+use Rattle.octets.specs.Part.{part, length_part_le, get_or_part, part_whole, part_past}
 use Rattle.octets.specs.Xor.{◌⊻◌, xor_nil, length_xor_le, get_or_xor, xor_regroups, take_xor, drop_xor, part_xor}
 use Rattle.octets.specs.Operands.{xor_all, Long, length_xor_all_le, parts_of, part_xor_all}
 
@@ -62,7 +62,7 @@ module _ (d t : List ℕ) (n : ℕ) where
   -- each of the first n bytes is XORed with that of t at its place; past the end of t that is 0
   pub bytes_xored : (i : ℕ) → i < n → get_or (d ⊻ part t 0 n) i 0 ≡ bit_xor (get_or d i 0) (get_or t i 0)
   bytes_xored i l =
-      get_or_xor d (part t 0 n) i ∙ ap (bit_xor (get_or d i 0)) (get_d_part t 0 n i l ∙ ap (λ (k : ℕ). get_or t k 0) (zero-add i))
+      get_or_xor d (part t 0 n) i ∙ ap (bit_xor (get_or d i 0)) (get_or_part t 0 n i l ∙ ap (λ (k : ℕ). get_or t k 0) (zero-add i))
 
   -- past n, and past the end of t, the bytes stay
   pub rest_stays : (at k : ℕ) → min n (length t) ≤ at → part (d ⊻ part t 0 n) at k ≡ part d at k

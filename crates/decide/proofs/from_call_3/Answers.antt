@@ -1,12 +1,12 @@
 -- `decide::from_call_3` meets its contract.
 use mathlib.Core.Path.{◌∙◌}
 use Rattle.folds.specs.Tests.{tests}
-use Rattle.decide.specs.Stages.{from_call3}
+use Rattle.decide.specs.Stages.{from_call_3}
 use Rattle.decide.specs.Joined.{call_3_on}
 use Rattle.decide.proofs.from_call_3.Goals as goal
 
 pub returns-then-cdb-eq0 : goal.returns-then-cdb-eq0
-unfolding from_call3
+unfolding from_call_3
 returns-then-cdb-eq0 c = search tests
 
 pub returns : goal.returns

@@ -4,11 +4,11 @@ use borrow.Author.Tests.{eq-eqb, ne_eqb}
 use Rattle.decide.specs.Joined.{check_2_failed, check_2_on}
 use Rattle.folds.specs.Tests.{tests}
 use Rattle.command.specs.Command.{size_of}
-use Rattle.decide.specs.Stages.{from_check2}
+use Rattle.decide.specs.Stages.{from_check_2}
 use Rattle.decide.proofs.from_check_2.Goals as goal
 
 pub returns-then-size-eq0 : goal.returns-then-size-eq0
-unfolding from_check2
+unfolding from_check_2
 returns-then-size-eq0 c =
     let args = c.args in
     let size = c.size_of-size in
@@ -16,7 +16,7 @@ returns-then-size-eq0 c =
     search (tests, eq-eqb (size_of args.op) 0 (sym size.ensures ∙ if1.true))
 
 pub returns-then-cdb-size : goal.returns-then-cdb-size
-unfolding from_check2
+unfolding from_check_2
 returns-then-cdb-size c =
     let op = c.args.op in
     let size = c.size_of-size in
