@@ -16,7 +16,7 @@ use Rattle.drives.specs.Table.{drive_of}
 use Rattle.slots.specs.declared.Best.{Best}
 use Rattle.slots.specs.Record.{slot_of}
 use Rattle.slots.specs.Find.{better, best_of, newest_of}
-use Rattle.slots.specs.Change.{fall_stores, gone_stores, of_drive, drop_stores, lower_one, lowered, released, drop_one, dropped_to, dropped}
+use Rattle.slots.specs.Change.{fall_stores, gone_stores, of_drive, drop_stores, lowered, released, drop_one, dropped_to, dropped}
 use Rattle.command.specs.Command.{source_of}
 use Rattle.meaning.specs.Acts.{sources_from, gathered}
 use Rattle.frozen.specs.Image as old

@@ -10,8 +10,7 @@ use Rattle.folds.specs.declared.Found.TheVariants.{At, Nothing}
 use Rattle.rules.specs.Rule.{Rule, rule, first}
 use Rattle.rules.proofs.Rule.{first_append}
 use Rattle.drives.specs.declared.Came.{Came}
-use Rattle.drives.specs.Table.{drive_of, failed}
-use Rattle.sense.specs.declared.Answer.{Answer}
+use Rattle.drives.specs.Table.{drive_of}
 use Rattle.sense.specs.Sense.{absent_sense, nested_sense}
 use Rattle.command.specs.Command.{source_of}
 use Rattle.meaning.specs.declared.Fault.{Fault}

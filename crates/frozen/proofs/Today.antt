@@ -19,9 +19,7 @@ use Rattle.slots.specs.Record.{slot_of}
 use Rattle.slots.specs.Record as slots
 use Rattle.slots.specs.Change.{released}
 use Rattle.slots.specs.Find.{empty_slot}
-use Rattle.sense.specs.declared.Answer.{Answer}
 use Rattle.sense.specs.declared.Answer.TheVariants.{Good, WrongCount}
-use Rattle.sense.specs.declared.Outcome.{Outcome}
 use Rattle.sense.specs.Sense.{no_sense, plain_sense, absent_sense, nested_sense}
 use Rattle.command.specs.declared.Op.{Op}
 use Rattle.command.specs.declared.Op.TheVariants.{XdWrite, XpWrite, XdRead, Rebuild, Regenerate, Read, Write, Unknown}

@@ -7,7 +7,7 @@ use Rattle.std.proofs.Math.Path.{sym, ap}
 use Rattle.std.proofs.Math.Logic.{⊎_elim}
 use mathlib.Core.List.{List, ◌∷◌, map, Memᴰ}
 use Rattle.std.proofs.Math.Option
-use Rattle.std.proofs.Math.Option.{Option, some, none, some-injective, none-ne-some}
+use Rattle.std.proofs.Math.Option.{some, none, some-injective, none-ne-some}
 use Rattle.folds.specs.declared.Found.{Found}
 use Rattle.folds.specs.declared.Found.TheVariants.{At, Nothing}
 use Rattle.folds.specs.Cases.{either, order}

@@ -2,7 +2,6 @@
 use Prim.Native.Nat.{ℕ}
 use Rattle.std.specs.Prelude.{Bool, eqb}
 use mathlib.Core.List.{List, [], ◌∷◌}
-use Rattle.std.proofs.Math.Option
 use Rattle.std.proofs.Math.Option.{Option, some, none}
 use Rattle.folds.specs.declared.Found.{Found}
 use Rattle.folds.specs.declared.Found.TheVariants.{At, Nothing}

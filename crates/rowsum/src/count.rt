@@ -62,8 +62,8 @@ fn row_length(l: usize, row: usize) -> usize
 // What is counted with one row more, whose sum is left in sum.
 fn with_row(tally: Tally, sum: &mut [u8], image: &[u8], g: Geometry, row: usize) -> Tally
     requires framed { Framed image.now g × (row < g.b) × (length sum.old ≡ g.l) }
-    requires counted { Counted image.now g row tally.rows tally.bytes }
-    ensures counted_2 { Counted image.now g (row + 1) result.rows result.bytes }
+    requires counted_before { Counted image.now g row tally.rows tally.bytes }
+    ensures counted { Counted image.now g (row + 1) result.rows result.bytes }
     ensures sum_after { sum.new ≡ row_sum image.now g row }
 {
     if !is_open(sum, image, g, row) {

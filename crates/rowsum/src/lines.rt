@@ -43,7 +43,7 @@ fn put_row(
     row: usize,
 ) -> usize
     requires framed { Framed image.now g × (row < g.b) × (length sum.old ≡ g.l) }
-    requires row_in_bounds { at + length (line_text image.now g row) ≤ length out.old }
+    requires room { at + length (line_text image.now g row) ≤ length out.old }
     ensures wrote { Wrote (line_text image.now g row) at result out.old out.new }
     ensures sum_after { sum.new ≡ row_sum image.now g row }
 {
@@ -56,7 +56,7 @@ fn put_row(
 // Writes the lines of all rows. The last row's sum is left in sum.
 fn put_rows(out: &mut [u8], at: usize, sum: &mut [u8], image: &[u8], g: Geometry) -> usize
     requires framed { Framed image.now g × (length sum.old ≡ g.l) }
-    requires b_in_bounds { at + length (row_text image.now g g.b) ≤ length out.old }
+    requires room { at + length (row_text image.now g g.b) ≤ length out.old }
     ensures wrote { Wrote (row_text image.now g g.b) at result out.old out.new }
     ensures sum_after { sum.new ≡ row_sum image.now g (g.b - 1) }
 {

@@ -19,7 +19,7 @@ put_line-requires c =
     let row = c.args.row in
     let o = sym c.is_open.ensures.0 ∙ c.if-not-is_open.false in
     let n = ap length c.is_open.ensures.1 ∙ length_sum s g row c.requires.framed.0 c.requires.framed.1 in
-    omega (arith, c.requires.row_in_bounds, length_line s g row c.requires.framed.0 c.requires.framed.1 o, n)
+    omega (arith, c.requires.room, length_line s g row c.requires.framed.0 c.requires.framed.1 o, n)
 
 pub returns-clause-wrote : goal.returns-clause-wrote
 returns-clause-wrote c =

@@ -11,13 +11,13 @@ use Rattle.rowsum.proofs.lines.put_rows.Goals as goal
 pub loop-row-init : goal.loop-row-init
 loop-row-init c = (search rules, search rules, search rules, rw rows_none (wrote_none _ _), λ n e. absurd (omega (arith, e)))
 
-pub put_row-next-requires-clause-row_in_bounds : goal.put_row-next-requires-clause-row_in_bounds
-put_row-next-requires-clause-row_in_bounds c =
+pub put_row-next-requires-clause-room : goal.put_row-next-requires-clause-room
+put_row-next-requires-clause-room c =
     let s = c.args.image.now in
     let g = c.args.g in
     let row = c.loop-row.row in
     let grows = rows_grow s g g.b (row + 1) (omega arith) in
-    omega (arith, c.requires.b_in_bounds, c.loop-row.invariant.3.ends, length_rows_more s g row, grows)
+    omega (arith, c.requires.room, c.loop-row.invariant.3.ends, length_rows_more s g row, grows)
 
 pub loop-row-preserved : goal.loop-row-preserved
 loop-row-preserved c =

@@ -12,8 +12,8 @@ returns-then-out-head_length c =
     let p = unfitted _ _ (omega (arith, c.if-out-head_length.true, c.head_length.ensures.0, long)) in
     record { sum_after = tally.sum_after; value = p.0; out_after = p.1 }
 
-pub put_rows-requires-clause-b_in_bounds : goal.put_rows-requires-clause-b_in_bounds
-put_rows-requires-clause-b_in_bounds c =
+pub put_rows-requires-clause-room : goal.put_rows-requires-clause-room
+put_rows-requires-clause-room c =
     let tally = c.count_rows-tally.ensures in
     let long = length_head c.args.g c.count_rows-tally.result.rows in
     omega (arith, c.if-out-head_length.false, c.head_length.ensures.0, long, c.put_head-at.ensures.ends, tally.counted.bytes_are)
