@@ -10,7 +10,7 @@
  * Two more know nothing of a shelf: they XOR blocks, and an interrupt handler may call them.
  *
  *   shelf_xor        XORs a block into another
- *   shelf_xor_four   XORs four blocks into another, in one pass
+ *   shelf_xor_four   XORs four blocks into another, in two passes
  *
  * Any lengths and any bytes are safe to pass. A call reads and writes only what it is lent, and always returns; the first three
  * answer with a number. It allocates nothing and keeps nothing: no pointer, no copy, no state. All that a shelf remembers is in its
@@ -227,7 +227,7 @@ uint32_t shelf_mark(uint8_t *image, size_t image_len, uint32_t target, uint32_t 
  *   now that is, in all:
  *
  *                      x86-64   Arm
- *     shelf_xor             8     0
+ *     shelf_xor            32     0
  *     shelf_xor_four       88    16
  *
  * - It calls nothing, not even the C library, and waits for nothing. Its time grows with the bytes that it XORs.
@@ -239,7 +239,7 @@ void shelf_xor(uint8_t *into, size_t into_len, const uint8_t *from, size_t from_
 
 /*
  * XORs the bytes of `a`, `b`, `c` and `d` into those of `into`, as many as all five have; the rest of `into` stays. With blocks of
- * one length it leaves what four calls of shelf_xor leave, but reads and writes `into` once; REBUILD and REGENERATE go by it. What
+ * one length it leaves what four calls of shelf_xor leave, but reads and writes `into` twice; REBUILD and REGENERATE go by it. What
  * is said of shelf_xor holds of it.
  */
 void shelf_xor_four(uint8_t *into, size_t into_len, const uint8_t *a, size_t a_len, const uint8_t *b, size_t b_len,

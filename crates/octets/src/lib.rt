@@ -36,17 +36,27 @@ pub fn xor_into(dst: &mut [u8], src: &[u8])
     }
 }
 
-// XORs a, b, c and d into dst, in one pass over it: dst is loaded and stored once, not four times.
-pub fn xor_four_into(dst: &mut [u8], a: &[u8], b: &[u8], c: &[u8], d: &[u8])
-    requires { (length dst.old ≡ length a.now) × (length dst.old ≡ length b.now) × (length dst.old ≡ length c.now) × (length dst.old ≡ length d.now) }
-    ensures { dst.new ≡ dst.old ⊻ xor_all (a.now ∷ b.now ∷ c.now ∷ d.now ∷ []) }
+// XORs a and b into dst, in one pass over it.
+fn xor_two_into(dst: &mut [u8], a: &[u8], b: &[u8])
+    requires { (length dst.old ≡ length a.now) × (length dst.old ≡ length b.now) }
+    ensures { dst.new ≡ dst.old ⊻ (a.now ⊻ b.now) }
 {
     let n = dst.len();
     let mut i = 0;
     while i < n {
-        dst[i] = dst[i] ^ (a[i] ^ (b[i] ^ (c[i] ^ d[i])));
+        dst[i] = dst[i] ^ (a[i] ^ b[i]);
         i += 1;
     }
+}
+
+// XORs a, b, c and d into dst, two in a pass: dst is loaded and stored twice, not four times. A loop over all five blocks would take
+// more stack, where C calls it, than an interrupt handler has.
+pub fn xor_four_into(dst: &mut [u8], a: &[u8], b: &[u8], c: &[u8], d: &[u8])
+    requires { (length dst.old ≡ length a.now) × (length dst.old ≡ length b.now) × (length dst.old ≡ length c.now) × (length dst.old ≡ length d.now) }
+    ensures { dst.new ≡ dst.old ⊻ xor_all (a.now ∷ b.now ∷ c.now ∷ d.now ∷ []) }
+{
+    xor_two_into(dst, a, b);
+    xor_two_into(dst, c, d);
 }
 
 // Writes the XOR of a and b over dst, in one pass: dst is stored once, and not loaded.

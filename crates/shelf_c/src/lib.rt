@@ -3,7 +3,7 @@
 
 #![tactic(auto)]
 
-ghost use Rattle.std.specs.Prelude.{◌≡◌, [], ◌∷◌};
+ghost use Rattle.std.specs.Prelude.{◌≡◌, ◌≤◌, ◌⊎◌, [], ◌∷◌, length};
 ghost use Rattle.drives.specs.Table.{to};
 ghost use Rattle.sense.specs.Answers.{number_of};
 ghost use Rattle.meaning.specs.Step.{reset_answer, reset_image, mark_answer, mark_image};
@@ -73,14 +73,23 @@ pub extern "C" fn shelf_xor(into: &mut [u8], from: &[u8])
     octets::xor_into(&mut into[..n], &from[..n]);
 }
 
-// Its form with four operands: as many bytes as all five have are XORed, in one pass.
+// Of two blocks the shorter one first. Where they come in either order, the compiler takes each as a place of its own and not as a sum
+// that it works out anew, so that `shelf_xor_four` needs no more stack than its registers.
+fn shorter_first<'a>(a: &'a [u8], b: &'a [u8]) -> (&'a [u8], &'a [u8])
+    ensures shorter { length result.0.now ≤ length result.1.now }
+    ensures both { ((result.0.now ≡ a.now) × (result.1.now ≡ b.now)) ⊎ ((result.0.now ≡ b.now) × (result.1.now ≡ a.now)) }
+{
+    if a.len() < b.len() { (a, b) } else { (b, a) }
+}
+
+// Its form with four operands: as many bytes as all five have are XORed, in two passes.
 #[unsafe(no_mangle)]
 pub extern "C" fn shelf_xor_four(into: &mut [u8], a: &[u8], b: &[u8], c: &[u8], d: &[u8])
     ensures { into.new ≡ xored_all into.old (a.now ∷ b.now ∷ c.now ∷ d.now ∷ []) }
 {
+    let (short, long) = shorter_first(a, b);
     let two = octets::least(d.len(), into.len());
     let three = octets::least(c.len(), two);
-    let four = octets::least(b.len(), three);
-    let n = octets::least(a.len(), four);
-    octets::xor_four_into(&mut into[..n], &a[..n], &b[..n], &c[..n], &d[..n]);
+    let n = octets::least(short.len(), three);
+    octets::xor_four_into(&mut into[..n], &short[..n], &long[..n], &c[..n], &d[..n]);
 }

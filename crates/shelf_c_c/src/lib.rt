@@ -51,7 +51,7 @@ pub extern "C" fn shelf_xor(into: &mut [u8], from: &[u8])
     shelf_c::shelf_xor(into, from);
 }
 
-// Its form with four operands: as many bytes as all five have are XORed, in one pass.
+// Its form with four operands: as many bytes as all five have are XORed, in two passes.
 #[unsafe(no_mangle)]
 pub extern "C" fn shelf_xor_four(into: &mut [u8], a: &[u8], b: &[u8], c: &[u8], d: &[u8])
     ensures { into.new ≡ xored_all into.old (a.now ∷ b.now ∷ c.now ∷ d.now ∷ []) }
