@@ -184,7 +184,7 @@ extern "C" {
  * SHELF_GOOD and nothing else changes a medium meanwhile, the media are as one REBUILD from all those drives leaves them. So a drive
  * of any size is rebuilt over two strings, in ranges of at most the blocks of a slot.
  *
- * Stack, as measured on x86-64: REBUILD and REGENERATE at most 6,800 bytes, at any number of sources; every other call less than
+ * Stack, as measured on x86-64: REBUILD and REGENERATE at most 4,100 bytes, at any number of sources; every other call less than
  * 1,900.
  *
  * READ of block 7 of the drive with address 1, on a shelf whose blocks have 512 bytes:

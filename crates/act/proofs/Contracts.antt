@@ -2,7 +2,7 @@
 use borrow.Fn.Kinds.{Out}
 use Rattle.act.proofs as act
 
-abbrev pub entry_of : Out 0 act.keep.entry_of.Kinds.ps act.keep.entry_of.Kinds.r
+abbrev pub entry_of : Out 1 act.keep.entry_of.Kinds.ps act.keep.entry_of.Kinds.r
 entry_of = act.keep.entry_of.Reads.Post
 
 abbrev pub read : Out 2 act.moves.read.Kinds.ps act.moves.read.Kinds.r

@@ -23,6 +23,3 @@ pub record Passable (s sent : List ℕ) (p : Pass) : Type 0 where
 
 abbrev pub laid_piece : List ℕ → List ℕ → Pass → ℕ → ℕ → List ℕ
 laid_piece s sent p o k = laid p.adds (part s (p.to + o) k) (mixed p.mirror (part sent o k) (part s (p.from + o) k))
-
-unfoldable pub passed_piece : List ℕ → List ℕ → Pass → ℕ → ℕ → List ℕ
-passed_piece s sent p o k = put s (p.to + o) (laid_piece s sent p o k)

@@ -1,7 +1,7 @@
 -- XDWRITE, XDWRITE(10) and XDWRITEREAD(10), from what the decision showed to what the command leaves.
 use Prim.Native.Nat.{ℕ, ◌+◌, ◌*◌, ◌≤◌}
 use Rattle.std.proofs.Common.{arith, ◌∙◌, inl, inr, ⊎_elim, length-take-le}
-use Rattle.std.specs.Prelude.{◌≡◌, refl, false, Bool, true, eqb, take, drop}
+use Rattle.std.specs.Prelude.{◌≡◌, refl, false, Bool, true, not, take, drop}
 use Rattle.std.proofs.Math.Path.{sym, ap, ap₂}
 use Rattle.std.proofs.Math.Bool.{cond}
 use mathlib.Core.List.{List, [], ◌∷◌, ◌++◌, map}
@@ -19,7 +19,7 @@ use Rattle.slots.specs.Slots.{used_count}
 use Rattle.slots.specs.Change.{entry}
 use Rattle.meaning.specs.declared.Span.{Span}
 use Rattle.meaning.specs.declared.Act.TheVariants.{Couple, Retain, XdWriteRead}
-use Rattle.meaning.specs.Acts.{span_at, blocks_of, mixed, laid, leaves, hands, over, block_store, data_over}
+use Rattle.meaning.specs.Acts.{span_at, blocks_of, mixed, laid, leaves, hands, block_store, data_over}
 use Rattle.meaning.specs.Allowed.{Blocks, Filled, Roomy, Limited, Free}
 use Rattle.meaning.specs.Lengths.{span_after_media, span_in}
 use Rattle.act.specs.declared.pass.Pass.{Pass}
@@ -28,20 +28,17 @@ use Rattle.act.specs.Pass.{passed_of, Passable}
 -- ---- the data, alone and before a record
 
 -- nothing stored is nothing written
-stored_data : (m : List ℕ) (g : Geometry) (x : Span) (ndisc : ℕ) (s : List ℕ) (ws : List Store)
-    → stored m (map (block_store g) (data_over x ndisc s) ++ ws) ≡ stored (put m (span_at g x) (cond (eqb ndisc 0) s [])) ws
-stored_data m g x ndisc s ws = pick (eqb ndisc 0)
-  where
-    pick : (writes : Bool) → stored m (map (block_store g) (cond writes (over x s ∷ []) []) ++ ws) ≡ stored (put m (span_at g x) (cond writes s [])) ws
-    pick true = refl
-    pick false = ap (λ (t : List ℕ). stored t ws) (sym (put_nil m (span_at g x)))
+stored_data : (m : List ℕ) (g : Geometry) (x : Span) (ndisc : Bool) (s : List ℕ) (ws : List Store)
+    → stored m (map (block_store g) (data_over x ndisc s) ++ ws) ≡ stored (put m (span_at g x) (cond (not ndisc) s [])) ws
+stored_data m g x false s ws = refl
+stored_data m g x true s ws = ap (λ (t : List ℕ). stored t ws) (sym (put_nil m (span_at g x)))
 
 -- ---- the result goes to the secondary
 
-abbrev coupling : ℕ → ℕ → ℕ → Pass
-coupling from to mirror = record { from = from; to = to; mirror = mirror; adds = eqb mirror 0 }
+abbrev coupling : ℕ → ℕ → Bool → Pass
+coupling from to mirror = record { from = from; to = to; mirror = mirror; adds = not mirror }
 
-module _ (s : List ℕ) (g : Geometry) (x y : Span) (mirror from to : ℕ) (sent : List ℕ) (same : x.count ≡ y.count) (f : Filled g x sent)
+module _ (s : List ℕ) (g : Geometry) (x y : Span) (mirror : Bool) (from to : ℕ) (sent : List ℕ) (same : x.count ≡ y.count) (f : Filled g x sent)
     (fe : from ≡ span_at g x) (te : to ≡ span_at g y) where
   pub couple_passable : Framed s g → Blocks s g x → Blocks s g y → (x.drive ≡ y.drive → ⊥) → Passable s sent (coupling from to mirror)
   couple_passable frame b c ne =
@@ -60,15 +57,15 @@ module _ (s : List ℕ) (g : Geometry) (x y : Span) (mirror from to : ℕ) (sent
       let v : List ℕ = mixed mirror sent (part s (span_at g x) (x.count * g.l)) in
       ue
       ∙ ap (λ (w : List ℕ). put w from sent) e
-      ∙ ap₂ (λ (a n : ℕ). put (put s to (laid (eqb mirror 0) (part s to (length sent)) (mixed mirror sent (part s a n)))) a sent) fe f
-      ∙ ap₂ (λ (a n : ℕ). put (put s a (laid (eqb mirror 0) (part s a n) v)) (span_at g x) sent) te m
+      ∙ ap₂ (λ (a n : ℕ). put (put s to (laid (not mirror) (part s to (length sent)) (mixed mirror sent (part s a n)))) a sent) fe f
+      ∙ ap₂ (λ (a n : ℕ). put (put s a (laid (not mirror) (part s a n) v)) (span_at g x) sent) te m
 
 -- ---- the result is retained
 
-abbrev retaining : ℕ → ℕ → ℕ → Pass
+abbrev retaining : ℕ → ℕ → Bool → Pass
 retaining from at mirror = record { from = from; to = at + 16; mirror = mirror; adds = false }
 
-module _ (s : List ℕ) (g : Geometry) (x : Span) (i mirror ndisc from at : ℕ) (sent : List ℕ) (f : Filled g x sent)
+module _ (s : List ℕ) (g : Geometry) (x : Span) (i : ℕ) (mirror ndisc : Bool) (from at : ℕ) (sent : List ℕ) (f : Filled g x sent)
     (fe : from ≡ span_at g x) (ae : at ≡ slot_at g i) where
   pub retain_passable : Framed s g → Blocks s g x → Limited g x → Free s g i → Passable s sent (retaining from at mirror)
   retain_passable frame b m k =
@@ -81,15 +78,15 @@ module _ (s : List ℕ) (g : Geometry) (x : Span) (i mirror ndisc from at : ℕ)
         apart = inr (omega arith);
       }
 
-  pub retained_by : (rank : ℕ) (t u v : List ℕ) → rank ≡ used_count s g + 1 → t ≡ passed_of s sent (retaining from at mirror)
-      → u ≡ put t from (cond (eqb ndisc 0) sent []) → v ≡ put u at (bytes_of (entry rank 1 x.drive x.block.0 x.count)) → v ≡ leaves s g sent (Retain x i mirror ndisc)
+  pub retained_by : (t u v : List ℕ) → t ≡ passed_of s sent (retaining from at mirror)
+      → u ≡ put t from (cond (not ndisc) sent []) → v ≡ put u at (bytes_of (entry (used_count s g + 1) 1 x.drive x.block.0 x.count)) → v ≡ leaves s g sent (Retain x i mirror ndisc)
   unfolding passed_of
-  retained_by rank t u v re te ue ve =
+  retained_by t u v te ue ve =
       let r : List ℕ = bytes_of (entry (used_count s g + 1) 1 x.drive x.block.0 x.count) in
-      let d : List ℕ = cond (eqb ndisc 0) sent [] in
+      let d : List ℕ = cond (not ndisc) sent [] in
       let w : List ℕ = mixed mirror sent (part s (span_at g x) (x.count * g.l)) in
       ve
-      ∙ ap₂ (λ (w : List ℕ) (n : ℕ). put w at (bytes_of (entry n 1 x.drive x.block.0 x.count))) (ue ∙ ap (λ (w : List ℕ). put w from d) te) re
+      ∙ ap (λ (w : List ℕ). put w at r) (ue ∙ ap (λ (w : List ℕ). put w from d) te)
       ∙ ap₂ (λ (a n : ℕ). put (put (put s (at + 16) (mixed mirror sent (part s a n))) a d) at r) fe f
       ∙ ap (λ (a : ℕ). put (put (put s (a + 16) w) (span_at g x) d) a r) ae
       ∙ sym (stored_data (put s (data_at g i) w) g x ndisc sent (store Slots (slot_at g i) r ∷ []))
@@ -102,9 +99,9 @@ module _ (g : Geometry) (x : Span) (sent room : List ℕ) (f : Filled g x sent) 
   front_long = length-take-le (length sent) room (omega (arith, f, r))
 
   -- it became v, and the image t
-  pub xdwriteread_by : (s : List ℕ) (disable at : ℕ) (v t : List ℕ) → at ≡ span_at g x
-      → v ≡ mixed 0 (part sent 0 (length (take (length sent) room))) (part s at (length (take (length sent) room)))
-      → t ≡ put s at (cond (eqb disable 0) sent [])
+  pub xdwriteread_by : (s : List ℕ) (disable : Bool) (at : ℕ) (v t : List ℕ) → at ≡ span_at g x
+      → v ≡ mixed false (part sent 0 (length (take (length sent) room))) (part s at (length (take (length sent) room)))
+      → t ≡ put s at (cond (not disable) sent [])
       → (t ≡ leaves s g sent (XdWriteRead x disable)) × (v ++ drop (length sent) room ≡ put room 0 (hands s g sent (XdWriteRead x disable))) × (length sent ≡ length (hands s g sent (XdWriteRead x disable)))
   xdwriteread_by s disable at v t e ve te =
       let n : length (sent ⊻ blocks_of s g x) ≡ length sent =
@@ -116,6 +113,6 @@ module _ (g : Geometry) (x : Span) (sent room : List ℕ) (f : Filled g x sent) 
       ∙ ap (λ (j : ℕ). sent ⊻ part s (span_at g x) j) f in
       let l : length v ≡ length sent = ap length q ∙ n in
       let image =
-      te ∙ ap (λ (a : ℕ). put s a (cond (eqb disable 0) sent [])) e ∙ sym (stored_data s g x disable sent []) in
+      te ∙ ap (λ (a : ℕ). put s a (cond (not disable) sent [])) e ∙ sym (stored_data s g x disable sent []) in
       let front = ap (λ (j : ℕ). v ++ drop j room) (sym l) ∙ sym (put_cut room 0 v (omega (arith, f, r))) ∙ ap (put room 0) q in
       (image, front, sym n)

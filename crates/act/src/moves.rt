@@ -8,18 +8,21 @@ ghost use Rattle.meaning.specs.declared.Act.TheVariants.{Read, Write, XpWrite, X
 ghost use Rattle.meaning.specs.Acts.{leaves, hands};
 ghost use Rattle.meaning.specs.Allowed.{Allowed};
 
-use geometry::{Geometry, RECORD};
+use geometry::{Frame, Geometry, RECORD};
 use meaning::Span;
 
 // READ: the blocks go to the room's front.
-pub fn read(image: &[u8], g: Geometry, x: Span, room: &mut [u8]) -> usize
-    requires { Framed image.now g × Allowed image.now g [] (length room.old) (Read x) }
-    ensures { (room.new ≡ put room.old 0 (hands image.now g [] (Read x))) × (result ≡ length (hands image.now g [] (Read x))) }
+#[tactic(auto, using(meaning::specs::Lengths::span_in))]
+pub fn read(shelf: Frame<'_>, x: Span, room: &mut [u8]) -> usize
+    requires { Allowed shelf.image.now shelf.g [] (length room.old) (Read x) }
+    ensures { (room.new ≡ put room.old 0 (hands shelf.entry.image.now shelf.entry.g [] (Read x))) × (result ≡ length (hands shelf.entry.image.now shelf.entry.g [] (Read x))) }
 {
-    hand_over(image, g.place(x.drive, x.block), x.count * g.l, room)
+    let g = shelf.g;
+    hand_over(shelf.image, g.place(x.drive, x.block), x.count * g.l, room)
 }
 
 // WRITE: the blocks become the bytes sent.
+#[tactic(auto, using(meaning::specs::Lengths::span_in))]
 pub fn write(image: &mut [u8], g: Geometry, x: Span, sent: &[u8])
     requires { Framed image.old g × Allowed image.old g sent.now 0 (Write x) }
     ensures { image.new ≡ leaves image.old g sent.now (Write x) }
@@ -28,6 +31,7 @@ pub fn write(image: &mut [u8], g: Geometry, x: Span, sent: &[u8])
 }
 
 // XPWRITE: the bytes sent are XORed into the blocks.
+#[tactic(auto, using(meaning::specs::Lengths::span_in))]
 pub fn xpwrite(image: &mut [u8], g: Geometry, x: Span, sent: &[u8])
     requires { Framed image.old g × Allowed image.old g sent.now 0 (XpWrite x) }
     ensures { image.new ≡ leaves image.old g sent.now (XpWrite x) }
@@ -36,6 +40,7 @@ pub fn xpwrite(image: &mut [u8], g: Geometry, x: Span, sent: &[u8])
 }
 
 // XDREAD: slot i's result goes to the room's front, and is no longer retained.
+#[tactic(auto, unfolding(slots::specs::Change::released))]
 pub fn xdread(image: &mut [u8], g: Geometry, x: Span, i: usize, room: &mut [u8]) -> usize
     requires { Framed image.old g × Allowed image.old g [] (length room.old) (XdRead x i) }
     ensures { (image.new ≡ leaves image.old g [] (XdRead x i)) × (room.new ≡ put room.old 0 (hands image.old g [] (XdRead x i))) × (result ≡ length (hands image.old g [] (XdRead x i))) }
@@ -46,6 +51,7 @@ pub fn xdread(image: &mut [u8], g: Geometry, x: Span, i: usize, room: &mut [u8])
 }
 
 // The n bytes from index at on go to the room's front.
+#[tactic(auto, using(octets::specs::Part::mid_part, octets::specs::Part::length_part))]
 fn hand_over(image: &[u8], at: usize, n: usize, room: &mut [u8]) -> usize
     requires { (at + n ≤ length image.now) × (n ≤ length room.old) }
     ensures { (room.new ≡ put room.old 0 (part image.now at n)) × (result ≡ length (part image.now at n)) }

@@ -7,62 +7,66 @@ ghost use Rattle.meaning.specs.declared.Act.TheVariants.{Couple, Retain, XdWrite
 ghost use Rattle.meaning.specs.Acts.{leaves, hands};
 ghost use Rattle.meaning.specs.Allowed.{Allowed};
 
-use crate::pass::Pass;
-use geometry::{Geometry, RECORD};
+use crate::keep::entry_of;
+use crate::pass::{Pass, mix, pass_on, write_data};
+use geometry::{Frame, Geometry, RECORD};
 use meaning::Span;
 
 // Sec Ctl 00 or 10: the result goes to the blocks of y, and then the data to those of x.
-pub fn couple(image: &mut [u8], g: Geometry, x: Span, y: Span, mirror: usize, sent: &[u8])
+#[tactic(auto, using(meaning::specs::Lengths::span_in, crate::specs::Xdwrite::coupled_by))]
+pub fn couple(image: &mut [u8], g: Geometry, x: Span, y: Span, mirror: bool, sent: &[u8])
     requires { Framed image.old g × Allowed image.old g sent.now 0 (Couple x y mirror) }
     ensures { image.new ≡ leaves image.old g sent.now (Couple x y mirror) }
 {
     let from = g.place(x.drive, x.block);
     let to = g.place(y.drive, y.block);
     let p = Pass {
-        from: from,
-        to: to,
-        mirror: mirror,
-        adds: mirror == 0,
+        from,
+        to,
+        mirror,
+        adds: !mirror,
     };
-    crate::pass::pass_on(image, sent, p);
+    pass_on(image, sent, p);
     octets::put_at(image, from, sent);
 }
 
 // Sec Ctl 11, or XDWRITE(10): the result goes to slot i, then the data to the blocks of x unless ndisc (NDisc,
 // or DISABLE WRITE) is set, and last the slot's record.
+#[tactic(auto, using(meaning::specs::Lengths::span_in, crate::specs::Xdwrite::retained_by))]
 pub fn retain(
     image: &mut [u8],
     g: Geometry,
     x: Span,
     i: usize,
-    mirror: usize,
-    ndisc: usize,
+    mirror: bool,
+    ndisc: bool,
     sent: &[u8],
 )
     requires { Framed image.old g × Allowed image.old g sent.now 0 (Retain x i mirror ndisc) }
     ensures { image.new ≡ leaves image.old g sent.now (Retain x i mirror ndisc) }
 {
-    let rank = slots::used_count(image, g) + 1;
+    let entry = entry_of(Frame { image, g }, 1, x);
     let at = g.slot_at(i);
     let from = g.place(x.drive, x.block);
     let p = Pass {
-        from: from,
+        from,
         to: at + RECORD,
-        mirror: mirror,
+        mirror,
         adds: false,
     };
-    crate::pass::pass_on(image, sent, p);
-    crate::pass::write_data(image, from, ndisc == 0, sent);
-    slots::write_record(image, at, crate::keep::entry_of(rank, 1, x));
+    pass_on(image, sent, p);
+    write_data(image, from, !ndisc, sent);
+    slots::write_record(image, at, entry);
 }
 
 // XDWRITEREAD(10): the result goes to the room's front before the data, unless disable is set, goes to the blocks
 // of x.
+#[tactic(auto, using(meaning::specs::Lengths::span_in, crate::specs::Xdwrite::front_long))]
 pub fn xdwriteread(
     image: &mut [u8],
     g: Geometry,
     x: Span,
-    disable: usize,
+    disable: bool,
     sent: &[u8],
     room: &mut [u8],
 ) -> usize
@@ -71,7 +75,7 @@ pub fn xdwriteread(
 {
     let at = g.place(x.drive, x.block);
     let n = sent.len();
-    crate::pass::mix(&mut room[..n], image, at, 0, sent, 0);
-    crate::pass::write_data(image, at, disable == 0, sent);
+    mix(&mut room[..n], image, at, false, sent, 0);
+    write_data(image, at, !disable, sent);
     n
 }

@@ -1,5 +1,5 @@
 -- The CDB of each command, from its code and the fields that it says, and that the step reads these fields from it.
-use Rattle.std.specs.Prelude.{ℕ, ◌+◌, ◌*◌, ◌<◌, false, ◌≡◌, refl, ◌⊎◌, List, [], ◌∷◌, ◌++◌, eqb, length, get_or}
+use Rattle.std.specs.Prelude.{ℕ, ◌+◌, ◌*◌, ◌<◌, false, ◌≡◌, refl, ◌⊎◌, List, [], ◌∷◌, ◌++◌, eqb, length, get_or, Option, Some}
 use Rattle.std.proofs.Common.{sym, ap, ◌∙◌}
 use Rattle.std.proofs.Math.Path.{ap₂}
 use Rattle.octets.specs.Part.{part}
@@ -123,16 +123,16 @@ module _ (code : ℕ) (o : Op) (a : Came) (flags : ℕ) where
   listed_read count list n l = ap₂ (listed_saying code o a flags) (num_to_be_lt 4 count n) (num_to_be_lt 2 list l)
 
 -- the 10-byte commands that name a block
-pub ten_says : (code : ℕ) (o : Op) (a : Came) (flags block count : ℕ) → op_of code ≡ o → (has o).layout ≡ Ten → block < 4294967296 → count < 65536
+pub ten_says : (code : ℕ) (o : Op) (a : Came) (flags block count : ℕ) → op_of code ≡ o → (has o).layout ≡ Some Ten → block < 4294967296 → count < 65536
     → Says a (cdb_of (ten_saying code o anyhow flags block count)) o (ten_saying code o a flags block count)
 unfolding to_be
 ten_says code o a flags block count q l b n =
-    let e = bytes_by_lem (ten_saying code o anyhow flags block count) Ten l in
+    let e = bytes_by_lem (ten_saying code o anyhow flags block count) (Some Ten) l in
     record {
       code = ap (λ (c : List ℕ). op_of (get_or c 0 0)) e ∙ q;
-      known = ap (λ (x : Layout). eqb (size_by x) 0) l;
+      known = ap (λ (x : Option Layout). eqb (size_by x) 0) l;
       size = ap length e ∙ sym (ap size_by l);
-      fields = ap₂ (λ (x : Layout) (c : List ℕ). command_by x o a c) l e ∙ ten_read code o a flags block count b n;
+      fields = ap₂ (λ (x : Option Layout) (c : List ℕ). command_by x o a c) l e ∙ ten_read code o a flags block count b n;
     }
 
 module _ (a : Came) (flags count list : ℕ) (c : count < 4294967296) (l : list < 65536) where

@@ -1,10 +1,9 @@
 -- What a caller's laws speak of: blocks of a drive, a drive that is called, and what a call that is GOOD leaves.
 pub use Rattle.demands_one_two.specs.Effects.{result_in}
-use Rattle.std.specs.Prelude.{ℕ, ◌<◌, false, ◌≡◌, List, length, eqb}
+use Rattle.std.specs.Prelude.{ℕ, ◌<◌, Bool, false, ◌≡◌, List, length, eqb, Some}
 use Rattle.std.proofs.Common.{arith, ap, ◌∙◌}
 use Rattle.octets.specs.Put.{put}
 use Rattle.octets.specs.Octets.{Octets}
-use Rattle.folds.specs.declared.Found.TheVariants.{At}
 use Rattle.geometry.specs.declared.Geometry.{Geometry}
 use Rattle.drives.specs.declared.Came.{Came}
 use Rattle.drives.specs.Table.{state_of, address_of, to, target_of, secondary_of, failed}
@@ -22,7 +21,7 @@ use Rattle.callers.specs.After.{After}
 use Rattle.drives.specs.Front.{drive_ext}
 
 -- what is summed by a command that came as a, with Int Data or not
-abbrev pub summing : Came → ℕ → Summing
+abbrev pub summing : Came → Bool → Summing
 summing a int = record { int = int; came = a }
 
 -- n blocks of drive t from block b on
@@ -39,7 +38,7 @@ pub record Does (m : List ℕ) (g : Geometry) (a : Came) (c s r ys : List ℕ) (
 -- a command that came as a was sent to drive t of the valid image m, which is present
 pub record Target (m : List ℕ) (g : Geometry) (a : Came) (t : ℕ) : Type 0 where
   pub shelf : Shelf m g
-  pub found : target_of m g a ≡ At t
+  pub found : target_of m g a ≡ Some t
   pub present : failed m g t ≡ false
 
 -- a drive by its own address
@@ -47,7 +46,7 @@ pub own_address : (m : List ℕ) (g : Geometry) (t : ℕ) → Shelf m g → t < 
 own_address m g t h l e = record { shelf = h; found = drive_found m g h.table_fine t l; present = e }
 
 -- an address of an image of bytes fits the three bytes of XDWRITE's CDB
-pub address_fits : (m : List ℕ) (g : Geometry) → Shelf m g → Octets m → (a : Came) (x t : ℕ) → secondary_of m g a x ≡ At t → x < 16777216
+pub address_fits : (m : List ℕ) (g : Geometry) → Shelf m g → Octets m → (a : Came) (x t : ℕ) → secondary_of m g a x ≡ Some t → x < 16777216
 address_fits m g h o a x t e = let w = drive_inside m g x t e in omega (arith, address_lt m g (shelf_frame m g h) o t w.0, w.1)
 
 -- a command leaves the drives as they were, so that the next one finds its target

@@ -1,9 +1,7 @@
 -- A reset and a marking for callers: when they are GOOD, and what they leave, in words of results, states and blocks.
-use Rattle.std.specs.Prelude.{ℕ, ◌≤◌, ◌<◌, Bool, not, cond, eqb, List, [], ◌≡◌}
+use Rattle.std.specs.Prelude.{ℕ, ◌≤◌, ◌<◌, Bool, not, cond, eqb, List, [], ◌≡◌, Option, Some, is_none}
 use Rattle.std.proofs.Common.{arith, inr, ⊎_elim, sym, ap, ap₂, ◌∙◌, le-ltb, eq-eqb, ne_eqb}
 use Rattle.folds.specs.Cases.{same as alike}
-use Rattle.folds.specs.declared.Found.{Found}
-use Rattle.folds.specs.declared.Found.TheVariants.{At}
 use Rattle.folds.specs.Least.{index}
 use Rattle.rules.specs.Rule.{AllPass}
 use Rattle.rules.proofs.Rule.{none_decides}
@@ -27,7 +25,7 @@ use Rattle.sums.specs.Row.{row_sum}
 use Rattle.image.specs.Shelf.{Shelf, shelf_frame}
 use Rattle.image.proofs.Shelf.{shelf_valid}
 use Rattle.sense.specs.declared.Answer.TheVariants.{Good}
-use Rattle.meaning.specs.Checks.{is_nothing, calls}
+use Rattle.meaning.specs.Checks.{calls}
 use Rattle.meaning.specs.Step.{answered, untouched, reset_answer, reset_image, mark_calls, mark_answer, mark_image}
 use Rattle.meaning.specs.Acts.{span_at, blocks_of}
 use Rattle.callers.specs.After.{After}
@@ -38,14 +36,14 @@ use Rattle.demands_one_two.specs.Calls.{reset_shelf, reset_front, mark_shelf}
 -- a call that came as a was made to drive t of the valid image m, present or failed
 pub record Names (m : List ℕ) (g : Geometry) (a : Came) (t : ℕ) : Type 0 where
   pub shelf : Shelf m g
-  pub found : target_of m g a ≡ At t
+  pub found : target_of m g a ≡ Some t
 
 module _ (m : List ℕ) (g : Geometry) (a : Came) (t : ℕ) (h : Names m g a t) where
-  there : target_of m (geometry_of m) a ≡ At t
+  there : target_of m (geometry_of m) a ≡ Some t
   there = ap (λ (k : Geometry). target_of m k a) h.shelf.header ∙ h.found
 
   pass : AllPass (calls m a)
-  pass = (ap not (shelf_valid m g h.shelf), (ap is_nothing there, tt))
+  pass = (ap not (shelf_valid m g h.shelf), (ap is_none there, tt))
 
   p : Placed g
   p = (shelf_frame m g h.shelf).placed
@@ -55,7 +53,7 @@ module _ (m : List ℕ) (g : Geometry) (a : Came) (t : ℕ) (h : Names m g a t) 
 
   -- what is done to drive t of m's own geometry is done to drive t
   same : (f : Geometry → ℕ → List ℕ) → f (geometry_of m) (index (target_of m (geometry_of m) a)) ≡ f g t
-  same f = ap₂ (λ (k : Geometry) (x : Found). f k (index x)) h.shelf.header there
+  same f = ap₂ (λ (k : Geometry) (x : Option ℕ). f k (index x)) h.shelf.header there
 
   -- ---- "Hard reset drops all results of its drive, present or failed; the others keep their order"
 

@@ -1,11 +1,10 @@
 -- The bench shelf of 01: the laws' conditions can be met there, and its cases follow from them.
-use Rattle.std.specs.Prelude.{ℕ, ◌+◌, ◌≤◌, ◌<◌, false, ◌≡◌, refl, List, [], ◌∷◌, ◌++◌, length}
+use Rattle.std.specs.Prelude.{ℕ, ◌+◌, ◌≤◌, ◌<◌, false, ◌≡◌, refl, List, [], ◌∷◌, ◌++◌, length, Some}
 use Rattle.std.proofs.Common.{arith, ap, subst, inl, lit≤}
 use Rattle.octets.specs.Part.{part}
 use Rattle.octets.specs.Xor.{◌⊻◌}
 use Rattle.octets.specs.Number.{num, to_be}
 use Rattle.octets.specs.Operands.{xor_all}
-use Rattle.folds.specs.declared.Found.TheVariants.{At}
 use Rattle.folds.specs.Every.{every}
 use Rattle.folds.specs.All.{all_below}
 use Rattle.folds.specs.Count.{count_below}
@@ -78,7 +77,7 @@ module _ (m : List ℕ) (t b : ℕ) (l : t < 3) (k : b + 1 ≤ 2) (up : failed m
   at = record { range = record { drive_in = l; range_in = k }; present = up; some = lit≤ tt }
 
   -- as a source of drive d's
-  from : (a : Came) (x d : ℕ) → x < 4294967296 → source_drive m bench_shape a x ≡ At t → (t ≡ d → ⊥) → Names m bench_shape a (blocks d 0 1) (source x b)
+  from : (a : Came) (x d : ℕ) → x < 4294967296 → source_drive m bench_shape a x ≡ Some t → (t ≡ d → ⊥) → Names m bench_shape a (blocks d 0 1) (source x b)
   from a x d s f o = record { there = record { drive = t; found = f; range = record { drive_in = l; range_in = k }; present = up; other = o }; small = s }
 
 first : Target bench bench_shape (to 1) 0
@@ -106,7 +105,7 @@ one_fits = rw retained_then.0 (lit≤ tt)
 pub c1 : Does bench bench_shape (to 1) (xdwrite 0x00) fresh room [] (block 2 parity ∷ block 0 fresh ∷ []) (results bench bench_shape)
 unfolding cdb_of to_be drive_of least_below part num place ◌⊻◌
 c1 =
-    coupled_does bench bench_shape (to 1) 0 first 0 1 fresh room (at bench 0 0 (lit≤ tt) (lit≤ tt) refl) refl (lit≤ tt) 0 0 0
+    coupled_does bench bench_shape (to 1) 0 first 0 1 fresh room (at bench 0 0 (lit≤ tt) (lit≤ tt) refl) refl (lit≤ tt) 0 false 0
     (record { no_other = refl; mirror_is = refl; ndisc_is = refl; sec_is = refl }) (inl refl) 3 2 0 refl (lit≤ tt)
     (at bench 2 0 (lit≤ tt) (lit≤ tt) refl) (λ q. omega arith)
 
@@ -114,7 +113,7 @@ c1 =
 pub c2 : Does bench bench_shape (to 1) (xdwrite 0x06) fresh room [] (block 0 fresh ∷ []) (kept 1 0 result ∷ results bench bench_shape)
 unfolding cdb_of to_be part num place ◌⊻◌
 c2 =
-    retained_does bench bench_shape (to 1) 0 first 0 1 fresh room (at bench 0 0 (lit≤ tt) (lit≤ tt) refl) refl (lit≤ tt) one_fits 0x06 0 0
+    retained_does bench bench_shape (to 1) 0 first 0 1 fresh room (at bench 0 0 (lit≤ tt) (lit≤ tt) refl) refl (lit≤ tt) one_fits 0x06 false false
     (record { no_other = refl; mirror_is = refl; ndisc_is = refl; sec_is = refl }) 3 0 (lit≤ tt) (lit≤ tt)
 
 -- C3
@@ -137,7 +136,7 @@ pub c7 :
 unfolding cdb_of to_be drive_of least_below part num place ◌⊻◌ xor_all
 c7 =
     let m = shelf_of 0 vacant zeros two three in
-    rebuild_does m bench_shape (to 1) 0 (record { shelf = started.2; found = refl; present = refl }) 0 1 (source 2 0 ∷ source 3 0 ∷ []) 0 []
+    rebuild_does m bench_shape (to 1) 0 (record { shelf = started.2; found = refl; present = refl }) 0 1 (source 2 0 ∷ source 3 0 ∷ []) false []
     (from m 1 0 (lit≤ tt) (lit≤ tt) refl (to 1) 2 0 (lit≤ tt) refl (λ q. omega arith), (from m 2 0 (lit≤ tt) (lit≤ tt) refl (to 1) 3 0 (lit≤ tt) refl (λ q. omega arith), tt)) refl
     (lit≤ tt) (lit≤ tt) (at m 0 0 (lit≤ tt) (lit≤ tt) refl) room 0 (together_byte 0 (inl refl)) 1 (inl refl) (inl refl)
 
@@ -145,7 +144,7 @@ c7 =
 pub c8 : Does bench bench_shape (to 2) (list_cdb 0xC4 0x10) (head 1 ++ source_bytes 3) room [] [] (kept 2 1 one ∷ results bench bench_shape)
 unfolding cdb_of to_be drive_of least_below part num place ◌⊻◌ xor_all
 c8 =
-    regenerate_does bench bench_shape (to 2) 1 (record { shelf = bench_shelf; found = refl; present = refl }) 0 1 (source 3 0 ∷ []) 0 []
+    regenerate_does bench bench_shape (to 2) 1 (record { shelf = bench_shelf; found = refl; present = refl }) 0 1 (source 3 0 ∷ []) false []
     (from bench 2 0 (lit≤ tt) (lit≤ tt) refl (to 2) 3 1 (lit≤ tt) refl (λ q. omega arith), tt) refl
     (lit≤ tt) (lit≤ tt) (at bench 1 0 (lit≤ tt) (lit≤ tt) refl) room 0 (together_byte 0 (inl refl)) (lit≤ tt) one_fits
 
@@ -166,7 +165,7 @@ c11 = idle_does bench bench_shape (to 1) 0 first 9 (lit≤ tt) room 0xC1 0 XpWri
 -- REBUILD without a list
 pub unlisted : Does bench bench_shape (to 1) (list_cdb 0xC3 0) [] room [] [] (results bench bench_shape)
 unfolding cdb_of to_be
-unlisted = rebuild_unlisted bench bench_shape (to 1) 0 first room 0 0 (together_byte 0 (inl refl)) 1 (lit≤ tt) (inl refl)
+unlisted = rebuild_unlisted bench bench_shape (to 1) 0 first room 0 false (together_byte 0 (inl refl)) 1 (lit≤ tt) (inl refl)
 
 -- the published codes: 50h leaves what C2 leaves, 53h hands its result out, with DISABLE WRITE too
 pub published :
@@ -176,7 +175,7 @@ pub published :
 unfolding cdb_of to_be part num place ◌⊻◌
 published =
     let b = at bench 0 0 (lit≤ tt) (lit≤ tt) refl in (
-      xdwrite_ten_does bench bench_shape (to 1) 0 first 0 1 fresh room b refl (lit≤ tt) 0 0 (record { no_other = refl; disable_is = refl }) one_fits,
+      xdwrite_ten_does bench bench_shape (to 1) 0 first 0 1 fresh room b refl (lit≤ tt) 0 false (record { no_other = refl; disable_is = refl }) one_fits,
       xdwriteread_writes bench bench_shape (to 1) 0 first 0 1 fresh room b refl (lit≤ tt) (lit≤ tt) 0 (record { no_other = refl; disable_is = refl }),
       xdwriteread_keeps bench bench_shape (to 1) 0 first 0 1 fresh room b refl (lit≤ tt) (lit≤ tt) 4 (record { no_other = refl; disable_is = refl }),
     )

@@ -1,6 +1,6 @@
 -- Nothing to do: "GOOD for zero length (READ, WRITE, XDWRITE, XPWRITE) or list length zero", "zero length is GOOD for 50h, 51h and 53h", and
 -- behind a list "GOOD for length 0". Nothing moves.
-use Rattle.std.specs.Prelude.{ℕ, ◌/◌, ◌%◌, ◌<◌, ◌+◌, ◌*◌, ◌≤◌, Bool, not, ◌&&◌, ◌≡◌, ◌⊎◌, eqb, length, get_or}
+use Rattle.std.specs.Prelude.{ℕ, ◌/◌, ◌%◌, ◌<◌, ◌+◌, ◌*◌, ◌≤◌, Bool, not, ◌&&◌, ◌≡◌, ◌⊎◌, eqb, length, get_or, Option, None, is_none, Some}
 use native.Mathlib.Omega.{arith}
 use Rattle.std.proofs.Math.Bool.{true, false, and-false, cond}
 use Rattle.std.proofs.Math.Path.{refl}
@@ -26,17 +26,14 @@ use Rattle.command.specs.Command.{Limit, UpToM, NotToEnd, NoLimit, Moves, DataSe
 use Rattle.command.specs.Lossless.{cdb_of}
 use Rattle.meaning.specs.declared.Seen.{Seen}
 use Rattle.meaning.specs.declared.Seen.TheVariants.{Dash, Cdb}
-use Rattle.meaning.specs.declared.Decision.{Decision}
-use Rattle.meaning.specs.declared.Decision.TheVariants.{Stop}
+use Rattle.meaning.specs.Decision.{Decision, stop}
 use Rattle.meaning.specs.Sources.{is_at, own_entry}
-use Rattle.meaning.specs.Checks.{Check, zero_control, limits, fields_by, fields, sends_by, sends, idle_by, idle, lists, ranges, busy, nested, rooms, acts, command_checks, is_nothing, list_length, list_head}
+use Rattle.meaning.specs.Checks.{Check, zero_control, limits, fields_by, fields, sends_by, sends, idle_by, idle, lists, ranges, busy, nested, rooms, acts, command_checks, list_length, list_head}
 use Rattle.callers.specs.Bytes.{Together, ten_saying, sixteen_saying, anyhow, xdwrite_cdb, ten_says, xdwrite_says, listed_saying, rebuild_cdb, regenerate_cdb, rebuild_says, regenerate_says}
 use Rattle.callers.specs.Does.{Does, Target}
 use Rattle.callers.specs.Goes.{◌then◌, from_four_lem, stops}
 use Rattle.callers.specs.Xdwrites.{XdwriteByte, together_not}
 use Rattle.std.proofs.Math.Nat.{zero-mul}
-use Rattle.folds.specs.declared.Found.{Found}
-use Rattle.folds.specs.declared.Found.TheVariants.{Nothing}
 use Rattle.folds.proofs.Least.{least_none}
 use Rattle.callers.specs.Lists.{Headed}
 use Rattle.callers.specs.Listed.{ListByte}
@@ -50,13 +47,13 @@ spared sec x (inl e) = rw e refl
 spared sec x (inr e) = ap (λ (y : Bool). not (eqb sec 3) && y) e ∙ and-false (not (eqb sec 3))
 
 -- what decides whatever follows decides with it
-early : (xs ys : List Check) (e : Decision) → ((d : Decision) → first Stop xs d ≡ e) → (d : Decision) → first Stop (xs ++ ys) d ≡ e
-early xs ys e h d = first_append Stop xs ys d ∙ h (first Stop ys d)
+early : (xs ys : List Check) (e : Decision) → ((d : Decision) → first stop xs d ≡ e) → (d : Decision) → first stop (xs ++ ys) d ≡ e
+early xs ys e h d = first_append stop xs ys d ∙ h (first stop ys d)
 
 module _ (m : List ℕ) (g : Geometry) (a : Came) (t : ℕ) (h : Target m g a t) (b : ℕ) (low : b < 4294967296) (r : List ℕ) where
   -- check 6 decides where those before it pass
   at_six : (w : Seen) (o : Op) (k : Command) → AllPass (fields o m g t k) → 0 ≡ sends o g k → idle o k ≡ rule 6 w true Good ∷ []
-      → first Stop (command_checks o m g t k [] (length r)) (acts o m g t k []) ≡ Stop 6 w Good
+      → first stop (command_checks o m g t k [] (length r)) (acts o m g t k []) ≡ stop 6 w Good
   at_six w o k p n e =
       let five = rule 5 Dash (not (eqb 0 (sends o g k))) WrongCount in
       let to_6 = fields o m g t k ++ five ∷ idle o k in
@@ -68,19 +65,19 @@ module _ (m : List ℕ) (g : Geometry) (a : Came) (t : ℕ) (h : Target m g a t)
       (early to_8 (busy o m g k) _
       (early to_7 (ranges o m g t k []) _
       (early to_6 (lists o m g t k []) _
-      (λ d. first_append Stop (fields o m g t k) (five ∷ idle o k) d
-      ∙ none_decides Stop (fields o m g t k) _ p
-      ∙ ap₂ (λ (x : Bool) (ys : List Check). cond (not x) (Stop 5 Dash WrongCount) (first Stop ys d)) (eq-eqb 0 (sends o g k) n) e)))))
+      (λ d. first_append stop (fields o m g t k) (five ∷ idle o k) d
+      ∙ none_decides stop (fields o m g t k) _ p
+      ∙ ap₂ (λ (x : Bool) (ys : List Check). cond (not x) (stop 5 Dash WrongCount) (first stop ys d)) (eq-eqb 0 (sends o g k) n) e)))))
       (acts o m g t k [])
 
   -- the 10-byte ones that name a block; it may be anywhere
-  module _ (code flags : ℕ) (o : Op) (q : op_of code ≡ o) (ten : (has o).layout ≡ Ten) where
+  module _ (code flags : ℕ) (o : Op) (q : op_of code ≡ o) (ten : (has o).layout ≡ Some Ten) where
     abbrev k : Command
     k = ten_saying code o a flags b 0
 
     limit_passes : (x : Limit) → AllPass (limits x 7 g k)
     limit_passes UpToM = le-ltb g.m 0 (omega arith) then tt
-    limit_passes NotToEnd = and-false (not (eqb (flags / 4 % 2) 0)) then tt
+    limit_passes NotToEnd = and-false (eqb (flags / 4 % 2) 1) then tt
     limit_passes NoLimit = tt
 
     sends_none : (x : Moves) → 0 ≡ sends_by x g k
@@ -91,7 +88,7 @@ module _ (m : List ℕ) (g : Geometry) (a : Came) (t : ℕ) (h : Target m g a t)
     sends_none Exchanged = omega arith
     sends_none NoBytes = refl
 
-    passes : bit_and flags (zero_bits o) ≡ 0 → (x : Limit) → AllPass (fields_by Ten x o m g t k)
+    passes : bit_and flags (zero_bits o) ≡ 0 → (x : Limit) → AllPass (fields_by (Some Ten) x o m g t k)
     passes z x =
         ap (λ (y : ℕ). not (eqb y 0)) z then refl then each_append (λ (c : Check). applies c ≡ false) (limits x 7 g k) (zero_control 9 k) (limit_passes x) (refl then tt)
 
@@ -100,13 +97,13 @@ module _ (m : List ℕ) (g : Geometry) (a : Came) (t : ℕ) (h : Target m g a t)
         stops m g h.shelf a (cdb_of (ten_saying code o anyhow flags b 0)) [] r 6 (Cdb 7)
         (from_four_lem m g a t h (cdb_of (ten_saying code o anyhow flags b 0)) [] r o k (ten_says code o a flags b 0 q ten low (omega arith))
         ∙ at_six (Cdb 7) o k
-        (subst (λ (y : Layout). AllPass (fields_by y (has o).limit o m g t k)) (sym ten) (passes z (has o).limit))
+        (subst (λ (y : Option Layout). AllPass (fields_by y (has o).limit o m g t k)) (sym ten) (passes z (has o).limit))
         (sends_none (has o).moves)
-        (ap₂ (λ (u : Works) (y : Layout). idle_by u y k) w ten))
+        (ap₂ (λ (u : Works) (y : Option Layout). idle_by u y k) w ten))
 
   -- XDWRITE, to be retained or with a secondary address that is not the target's
-  pub xdwrite_idle : (flags mirror ndisc sec : ℕ) → XdwriteByte flags mirror ndisc sec → (a' c : ℕ) → a' < 16777216 → c < 4294967296
-      → (sec ≡ 3) ⊎ (Together sec × (ndisc ≡ 0) × (is_at t (secondary_of m g a a') ≡ false)) → Does m g a (xdwrite_cdb flags b 0 a' c) [] r [] [] (results m g)
+  pub xdwrite_idle : (flags : ℕ) (mirror ndisc : Bool) (sec : ℕ) → XdwriteByte flags mirror ndisc sec → (a' c : ℕ) → a' < 16777216 → c < 4294967296
+      → (sec ≡ 3) ⊎ (Together sec × (ndisc ≡ false) × (is_at t (secondary_of m g a a') ≡ false)) → Does m g a (xdwrite_cdb flags b 0 a' c) [] r [] [] (results m g)
   xdwrite_idle flags mirror ndisc sec z a' c small high e =
       let k = sixteen_saying 0xC0 XdWrite a flags b 0 a' c in
       stops m g h.shelf a (xdwrite_cdb flags b 0 a' c) [] r 6 (Cdb 6)
@@ -114,8 +111,8 @@ module _ (m : List ℕ) (g : Geometry) (a : Came) (t : ℕ) (h : Target m g a t)
       ∙ at_six (Cdb 6) XdWrite k
       (ap (λ (x : ℕ). not (eqb x 0)) z.no_other
       then (ap (λ (x : ℕ). eqb x 1) z.sec_is ∙ not_one sec (⊎_map (λ q. q) (λ q. q.0) e))
-      then (ap₂ (λ (x y : ℕ). not (eqb x 3) && eqb y 1) z.sec_is z.ndisc_is
-      ∙ spared sec (eqb ndisc 1) (⊎_map (λ q. q) (λ q. ap (λ (x : ℕ). eqb x 1) q.1) e))
+      then (ap₂ (λ (x : ℕ) (y : Bool). not (eqb x 3) && y) z.sec_is z.ndisc_is
+      ∙ spared sec ndisc (⊎_map (λ q. q) (λ q. q.1) e))
       then le-ltb g.m 0 (omega arith)
       then (ap (λ (x : ℕ). not (eqb x 3) && is_at t (secondary_of m g a a')) z.sec_is ∙ spared sec (is_at t (secondary_of m g a a')) (⊎_map (λ q. q) (λ q. q.2) e))
       then refl
@@ -126,21 +123,21 @@ module _ (m : List ℕ) (g : Geometry) (a : Came) (t : ℕ) (h : Target m g a t)
 -- ---- REBUILD and REGENERATE
 
 -- not to the last block with Int Data
-not_last : (int count : ℕ) → (int ≡ 0) ⊎ (count < 0xFFFFFFFF) → (not (eqb int 0) && eqb count 0xFFFFFFFF) ≡ false
+not_last : (int : Bool) (count : ℕ) → (int ≡ false) ⊎ (count < 0xFFFFFFFF) → (int && eqb count 0xFFFFFFFF) ≡ false
 not_last int count (inl e) = rw e
-not_last int count (inr l) = ap (λ (x : Bool). not (eqb int 0) && x) (ne_eqb count 0xFFFFFFFF (λ e. omega arith)) ∙ and-false (not (eqb int 0))
+not_last int count (inr l) = ap (λ (x : Bool). int && x) (ne_eqb count 0xFFFFFFFF (λ e. omega arith)) ∙ and-false int
 
-module _ (m : List ℕ) (g : Geometry) (a : Came) (t : ℕ) (h : Target m g a t) (r : List ℕ) (flags int : ℕ) (z : ListByte flags int) where
+module _ (m : List ℕ) (g : Geometry) (a : Came) (t : ℕ) (h : Target m g a t) (r : List ℕ) (flags : ℕ) (int : Bool) (z : ListByte flags int) where
   -- byte 1
   bits : not (eqb (bit_and flags 0xF8) 0) ≡ false
   bits = ap (λ (x : ℕ). not (eqb x 0)) z.no_other
 
-  last : (count : ℕ) → (int ≡ 0) ⊎ (count < 0xFFFFFFFF) → (not (eqb (flags / 4 % 2) 0) && eqb count 0xFFFFFFFF) ≡ false
-  last count w = ap (λ (x : ℕ). not (eqb x 0) && eqb count 0xFFFFFFFF) z.int_is ∙ not_last int count w
+  last : (count : ℕ) → (int ≡ false) ⊎ (count < 0xFFFFFFFF) → (eqb (flags / 4 % 2) 1 && eqb count 0xFFFFFFFF) ≡ false
+  last count w = ap (λ (x : Bool). x && eqb count 0xFFFFFFFF) z.int_is ∙ not_last int count w
 
   -- ---- without a list
 
-  pub rebuild_unlisted : (count : ℕ) → count < 4294967296 → (int ≡ 0) ⊎ (count < 0xFFFFFFFF)
+  pub rebuild_unlisted : (count : ℕ) → count < 4294967296 → (int ≡ false) ⊎ (count < 0xFFFFFFFF)
       → Does m g a (cdb_of (listed_saying 0xC3 Rebuild anyhow flags count 0)) [] r [] [] (results m g)
   unfolding list_bytes
   rebuild_unlisted count small w =
@@ -168,13 +165,13 @@ module _ (m : List ℕ) (g : Geometry) (a : Came) (t : ℕ) (h : Target m g a t)
     -- no data follows the list
     sent : (code : ℕ) (o : Op) → list_bytes (asking code o) g.l ≡ 8 + 8 * sources
     unfolding list_bytes
-    sent code o = rw (ne_eqb (8 + 8 * sources) 0 (λ e. omega arith)) (pick (eqb (int_of (asking code o)) 0))
+    sent code o = rw (ne_eqb (8 + 8 * sources) 0 (λ e. omega arith)) (pick (int_of (asking code o)))
       where
-        pick : (none : Bool) → cond none (8 + 8 * sources) (8 + 8 * sources + 0 * g.l) ≡ 8 + 8 * sources
-        pick true = refl
-        pick false = omega (arith, zero-mul g.l)
+        pick : (int : Bool) → cond int (8 + 8 * sources + 0 * g.l) (8 + 8 * sources) ≡ 8 + 8 * sources
+        pick false = refl
+        pick true = omega (arith, zero-mul g.l)
 
-    no_own : own_entry m g a s sources t ≡ Nothing
+    no_own : own_entry m g a s sources t ≡ None
     unfolding own_entry
     no_own = least_none _ sources other
 
@@ -195,7 +192,7 @@ module _ (m : List ℕ) (g : Geometry) (a : Came) (t : ℕ) (h : Target m g a t)
         then (ap (λ (x : ℕ). eqb x 0) hd.number ∙ ne_eqb sources 0 (λ e. omega arith))
         then ap (λ (x : ℕ). not (eqb x 1)) hd.type
         then ap (λ (x : ℕ). not (eqb x 0)) hd.zeros
-        then (ap (λ (x : ℕ). not (is_nothing (own_entry m g a s x t))) hd.number ∙ ap (λ (x : Found). not (is_nothing x)) no_own)
+        then (ap (λ (x : ℕ). not (is_none (own_entry m g a s x t))) hd.number ∙ ap (λ (x : Option ℕ). not (is_none x)) no_own)
         then tt
 
     -- checks 8 to 11
@@ -203,10 +200,10 @@ module _ (m : List ℕ) (g : Geometry) (a : Came) (t : ℕ) (h : Target m g a t)
     later o x = ranges o m g t x s ++ busy o m g x ++ nested o m g x s ++ rooms o g x (length r)
 
     -- check 7 decides
-    at_seven : (o : Op) (x : Command) (rs : List Check) → AllPass rs → first Stop (rs ++ (rule 7 (Cdb 2) true Good ∷ later o x)) (acts o m g t x s) ≡ Stop 7 (Cdb 2) Good
+    at_seven : (o : Op) (x : Command) (rs : List Check) → AllPass rs → first stop (rs ++ (rule 7 (Cdb 2) true Good ∷ later o x)) (acts o m g t x s) ≡ stop 7 (Cdb 2) Good
     at_seven o x rs p =
-        first_append Stop rs (rule 7 (Cdb 2) true Good ∷ later o x) (acts o m g t x s)
-        ∙ none_decides Stop rs (first Stop (rule 7 (Cdb 2) true Good ∷ later o x) (acts o m g t x s)) p
+        first_append stop rs (rule 7 (Cdb 2) true Good ∷ later o x) (acts o m g t x s)
+        ∙ none_decides stop rs (first stop (rule 7 (Cdb 2) true Good ∷ later o x) (acts o m g t x s)) p
 
     pub rebuild_idle : Does m g a (rebuild_cdb flags 0 sources) s r [] [] (results m g)
     rebuild_idle =

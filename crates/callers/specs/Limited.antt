@@ -1,6 +1,6 @@
 -- What XPWRITE, XDWRITE(10) and XDWRITEREAD(10) have in common: data for at most M blocks passes the checks of its fields and count, and of its
 -- range.
-use Rattle.std.specs.Prelude.{ℕ, ◌+◌, ◌*◌, not, ◌≡◌, refl, List, ◌∷◌, ◌++◌, eqb, length}
+use Rattle.std.specs.Prelude.{ℕ, ◌+◌, ◌*◌, not, ◌≡◌, refl, List, ◌∷◌, ◌++◌, eqb, length, Some}
 use Rattle.std.proofs.Common.{arith, ap, le-ltb, eq-eqb, ne_eqb}
 use Rattle.std.specs.Int.Bits.{bit_and}
 use Rattle.rules.specs.Rule.{rule, AllPass}
@@ -30,7 +30,7 @@ up_to_range o g k s =
 
 module _ (m : List ℕ) (g : Geometry) (f : Framed m g) (t b n : ℕ) (s : List ℕ) (w : Blocks m g (blocks t b n)) (e : Filled g (blocks t b n) s)
     (most : Limited g (blocks t b n)) (code : ℕ) (o : Op) (a : Came) (flags : ℕ) where
-  pub limited_says : op_of code ≡ o → (has o).layout ≡ Ten → Says a (cdb_of (ten_saying code o anyhow flags b n)) o (ten_saying code o a flags b n)
+  pub limited_says : op_of code ≡ o → (has o).layout ≡ Some Ten → Says a (cdb_of (ten_saying code o anyhow flags b n)) o (ten_saying code o a flags b n)
   limited_says q i =
       ten_says code o a flags b n q i (omega (arith, f.placed.ranges.b_high, w.range.range_in)) (omega (arith, most, f.placed.ranges.m_high))
 

@@ -1,9 +1,8 @@
 -- XDWRITE(10) and XDWRITEREAD(10), for a caller.
-use Rattle.std.specs.Prelude.{◌<◌, ℕ, ◌*◌, ◌/◌, ◌%◌, ◌≡◌, refl, List, [], ◌∷◌, length}
+use Rattle.std.specs.Prelude.{◌<◌, ℕ, ◌*◌, ◌/◌, ◌%◌, Bool, true, false, eqb, ◌≡◌, refl, List, [], ◌∷◌, length, Option, is_none}
 use Rattle.std.proofs.Common.{ap, ap₂, le-ltb}
 use Rattle.std.specs.Int.Bits.{bit_and}
 use Rattle.octets.specs.Xor.{◌⊻◌}
-use Rattle.folds.specs.declared.Found.{Found}
 use Rattle.folds.specs.Least.{index}
 use Rattle.geometry.specs.declared.Geometry.{Geometry}
 use Rattle.geometry.specs.Header.{blocks_at}
@@ -14,9 +13,9 @@ use Rattle.image.specs.Shelf.{shelf_frame}
 use Rattle.sense.specs.declared.Answer.TheVariants.{Good}
 use Rattle.command.specs.declared.Op.TheVariants.{XdWriteTen, XdWriteRead}
 use Rattle.meaning.specs.declared.Act.TheVariants.{Retain, XdWriteRead as ToXdWriteRead}
-use Rattle.meaning.specs.declared.Decision.TheVariants.{Go}
+use Rattle.meaning.specs.Decision.{go}
 use Rattle.meaning.specs.Acts.{over, data_over}
-use Rattle.meaning.specs.Checks.{is_nothing, busy, room_rule}
+use Rattle.meaning.specs.Checks.{busy, room_rule}
 use Rattle.demands_one_two.specs.Effects.{result_in}
 use Rattle.meaning.specs.Allowed.{Blocks, Filled, Roomy, Limited}
 use Rattle.callers.specs.Bytes.{ten_saying, xdwrite_ten_cdb, xdwriteread_cdb, codes_say}
@@ -26,13 +25,13 @@ use Rattle.callers.specs.Results.{free_left}
 use Rattle.callers.specs.Limited.{limited_says, limited_passes}
 
 -- byte 1: "bit 4 DPO and 3 FUA", "2 DISABLE WRITE", and no other bit
-pub record DisableByte (flags disable : ℕ) : Type 0 where
+pub record DisableByte (flags : ℕ) (disable : Bool) : Type 0 where
   pub no_other : bit_and flags 0xE3 ≡ 0
-  pub disable_is : flags / 4 % 2 ≡ disable
+  pub disable_is : eqb (flags / 4 % 2) 1 ≡ disable
 
 module _ (m : List ℕ) (g : Geometry) (a : Came) (t : ℕ) (h : Target m g a t) (b n : ℕ) (s r : List ℕ)
     (w : Blocks m g (blocks t b n)) (e : Filled g (blocks t b n) s) (most : Limited g (blocks t b n))
-    (flags disable : ℕ) (z : DisableByte flags disable) where
+    (flags : ℕ) (disable : Bool) (z : DisableByte flags disable) where
   f : Framed m g
   f = shelf_frame m g h.shelf
 
@@ -43,11 +42,11 @@ module _ (m : List ℕ) (g : Geometry) (a : Came) (t : ℕ) (h : Target m g a t)
       let v = (free_left m g h.shelf more).free in
       let i = (free_left m g h.shelf more).slot in
       let k = ten_saying 0x50 XdWriteTen a flags b n in
-      does m g h.shelf a (xdwrite_ten_cdb flags b n) s r (Retain (blocks t b n) i 0 disable)
-      (goes m g a t h (xdwrite_ten_cdb flags b n) s r XdWriteTen k (Retain (blocks t b n) i 0 disable)
+      does m g h.shelf a (xdwrite_ten_cdb flags b n) s r (Retain (blocks t b n) i false disable)
+      (goes m g a t h (xdwrite_ten_cdb flags b n) s r XdWriteTen k (Retain (blocks t b n) i false disable)
       (limited_says m g f t b n s w e most 0x50 XdWriteTen a flags codes_say.6 refl)
-      (limited_passes m g f t b n s w e most 0x50 XdWriteTen a flags z.no_other (busy XdWriteTen m g k) (ap is_nothing v.takes then tt))
-      (ap₂ (λ (x : Found) (y : ℕ). Go (Retain (blocks t b n) (index x) 0 y) Good) v.takes z.disable_is))
+      (limited_passes m g f t b n s w e most 0x50 XdWriteTen a flags z.no_other (busy XdWriteTen m g k) (ap is_none v.takes then tt))
+      (ap₂ (λ (x : Option ℕ) (y : Bool). go (Retain (blocks t b n) (index x) false y) Good) v.takes z.disable_is))
 
   -- 53h "puts the XOR in the receive room and counts it", "takes no slot"
   pub xdwriteread_does : Roomy g (blocks t b n) (length r)
@@ -59,15 +58,15 @@ module _ (m : List ℕ) (g : Geometry) (a : Came) (t : ℕ) (h : Target m g a t)
       (limited_says m g f t b n s w e most 0x53 XdWriteRead a flags codes_say.7 refl)
       (limited_passes m g f t b n s w e most 0x53 XdWriteRead a flags z.no_other (room_rule g k (length r))
       (le-ltb (length r) (n * g.l) fits then tt))
-      (ap (λ (y : ℕ). Go (ToXdWriteRead (blocks t b n) y) Good) z.disable_is))
+      (ap (λ (y : Bool). go (ToXdWriteRead (blocks t b n) y) Good) z.disable_is))
 
 -- without DISABLE WRITE the data are the blocks, and with it nothing is written
 module _ (m : List ℕ) (g : Geometry) (a : Came) (t : ℕ) (h : Target m g a t) (b n : ℕ) (s r : List ℕ)
     (w : Blocks m g (blocks t b n)) (e : Filled g (blocks t b n) s) (most : Limited g (blocks t b n)) (fits : Roomy g (blocks t b n) (length r)) where
-  pub xdwriteread_writes : (flags : ℕ) → DisableByte flags 0
+  pub xdwriteread_writes : (flags : ℕ) → DisableByte flags false
       → Does m g a (xdwriteread_cdb flags b n) s r (s ⊻ blocks_at m g t b n) (over (blocks t b n) s ∷ []) (results m g)
-  xdwriteread_writes flags z = xdwriteread_does m g a t h b n s r w e most flags 0 z fits
+  xdwriteread_writes flags z = xdwriteread_does m g a t h b n s r w e most flags false z fits
 
-  pub xdwriteread_keeps : (flags : ℕ) → DisableByte flags 1
+  pub xdwriteread_keeps : (flags : ℕ) → DisableByte flags true
       → Does m g a (xdwriteread_cdb flags b n) s r (s ⊻ blocks_at m g t b n) [] (results m g)
-  xdwriteread_keeps flags z = xdwriteread_does m g a t h b n s r w e most flags 1 z fits
+  xdwriteread_keeps flags z = xdwriteread_does m g a t h b n s r w e most flags true z fits

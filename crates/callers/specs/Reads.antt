@@ -1,10 +1,8 @@
 -- READ and XDREAD, for a caller.
-use Rattle.std.specs.Prelude.{ℕ, ◌+◌, ◌*◌, ◌<◌, not, ◌≡◌, refl, List, [], eqb, length}
+use Rattle.std.specs.Prelude.{ℕ, ◌+◌, ◌*◌, ◌<◌, not, ◌≡◌, refl, List, [], eqb, length, Option, Some, is_none}
 use Rattle.std.proofs.Common.{arith, sym, ap, subst, ◌∙◌, le-ltb, eq-eqb, eqb-true, ne_eqb}
-use Rattle.std.proofs.Math.Option.{some}
 use Rattle.std.specs.Int.Bits.{bit_and}
 use Rattle.octets.specs.Part.{part}
-use Rattle.folds.specs.declared.Found.{Found}
 use Rattle.folds.specs.Every.{holds}
 use Rattle.folds.specs.Least.{index}
 use Rattle.geometry.specs.declared.Geometry.{Geometry}
@@ -20,9 +18,8 @@ use Rattle.image.specs.Shelf.{shelf_frame}
 use Rattle.command.specs.declared.Op.TheVariants.{Read, XdRead}
 use Rattle.command.specs.Command.{op_of}
 use Rattle.meaning.specs.declared.Act.TheVariants.{Read as ToRead, XdRead as ToXdRead}
-use Rattle.meaning.specs.declared.Decision.TheVariants.{Go}
+use Rattle.meaning.specs.Decision.{go}
 use Rattle.sense.specs.declared.Answer.TheVariants.{Good}
-use Rattle.meaning.specs.Checks.{is_nothing}
 use Rattle.meaning.specs.Step.{decided}
 use Rattle.meaning.specs.Allowed.{Blocks, Held, Roomy}
 use Rattle.callers.specs.Bytes.{ten_saying, read_cdb, xdread_cdb, codes_say, ten_says}
@@ -52,7 +49,7 @@ module _ (m : List ℕ) (g : Geometry) (a : Came) (t : ℕ) (h : Target m g a t)
       refl)
 
   -- XDREAD, by either code, of the result in slot i
-  xdread_goes : (code : ℕ) → op_of code ≡ XdRead → (i : ℕ) → Held m g (blocks t b n) i → decided m a (xdread_cdb code b n) [] r ≡ Go (ToXdRead (blocks t b n) i) Good
+  xdread_goes : (code : ℕ) → op_of code ≡ XdRead → (i : ℕ) → Held m g (blocks t b n) i → decided m a (xdread_cdb code b n) [] r ≡ go (ToXdRead (blocks t b n) i) Good
   xdread_goes code said i w =
       let most = f.placed.ranges.b_high in
       let small = f.placed.ranges.m_high in
@@ -65,14 +62,14 @@ module _ (m : List ℕ) (g : Geometry) (a : Came) (t : ℕ) (h : Target m g a t)
       then refl
       then refl
       then refl
-      then ap is_nothing w.answers
-      then (ap (λ (x : Found). not (eqb (slot_of m g (index x)).len n)) w.answers ∙ ap not (eq-eqb (slot_of m g i).len n w.same_len))
+      then ap is_none w.answers
+      then (ap (λ (x : Option ℕ). not (eqb (slot_of m g (index x)).len n)) w.answers ∙ ap not (eq-eqb (slot_of m g i).len n w.same_len))
       then le-ltb (length r) (n * g.l) fits
       then tt)
-      (ap (λ (x : Found). Go (ToXdRead (blocks t b n) (index x)) Good) w.answers)
+      (ap (λ (x : Option ℕ). go (ToXdRead (blocks t b n) (index x)) Good) w.answers)
 
 -- XDREAD hands out the newest result of its drive at its block, and it alone is no longer retained
-pub xdread_does : (m : List ℕ) (g : Geometry) (a : Came) (t : ℕ) → Target m g a t → (b : ℕ) (z : Result) → first_of (answers t b) (results m g) ≡ some z
+pub xdread_does : (m : List ℕ) (g : Geometry) (a : Came) (t : ℕ) → Target m g a t → (b : ℕ) (z : Result) → first_of (answers t b) (results m g) ≡ Some z
     → (r : List ℕ) → Roomy g (blocks t b z.len) (length r) → (code : ℕ) → op_of code ≡ XdRead
     → Does m g a (xdread_cdb code b z.len) [] r z.bytes [] (sans_first (answers t b) (results m g))
 unfolding result_at

@@ -1,11 +1,9 @@
 -- For a caller that knows the retained results by age and not their slots: where one more fits there is a slot for it, and the newest at a
 -- drive and block has one.
-use Rattle.std.specs.Prelude.{ℕ, ◌<◌, ◌≡◌, List, length}
+use Rattle.std.specs.Prelude.{ℕ, ◌<◌, ◌≡◌, List, length, Option, Some, None}
+use Rattle.folds.specs.Cases.{none_apart, some_same}
 use Rattle.std.proofs.Common.{arith, sym, ap, ◌∙◌}
 use Rattle.std.proofs.Math.Path.{refl}
-use Rattle.std.proofs.Math.Option.{some, some-injective, none-ne-some}
-use Rattle.folds.specs.declared.Found.{Found}
-use Rattle.folds.specs.declared.Found.TheVariants.{At, Nothing}
 use Rattle.geometry.specs.declared.Geometry.{Geometry}
 use Rattle.slots.specs.Find.{empty_slot, newest_of}
 use Rattle.results.specs.First.{first_of}
@@ -27,9 +25,9 @@ pub record FreeSlot (m : List ℕ) (g : Geometry) : Type 0 where
 pub free_left : (m : List ℕ) (g : Geometry) → Shelf m g → length (results m g) < g.s → FreeSlot m g
 free_left m g h l = by (empty_slot m g) refl
   where
-    by : (o : Found) → empty_slot m g ≡ o → FreeSlot m g
-    by (At i) e = record { slot = i; free = empty_free m g i e }
-    by Nothing e = absurd (omega (arith, full m g h.slots_fine e))
+    by : (o : Option ℕ) → empty_slot m g ≡ o → FreeSlot m g
+    by (Some i) e = record { slot = i; free = empty_free m g i e }
+    by None e = absurd (omega (arith, full m g h.slots_fine e))
 
 -- ---- the newest at a drive and block
 
@@ -39,12 +37,12 @@ module _ (m : List ℕ) (g : Geometry) (t b : ℕ) (z : Result) where
     pub held : Held m g (blocks t b z.len) slot
     pub its : result_at m g slot ≡ z
 
-  pub newest_held : Shelf m g → first_of (answers t b) (results m g) ≡ some z → HeldSlot
+  pub newest_held : Shelf m g → first_of (answers t b) (results m g) ≡ Some z → HeldSlot
   unfolding result_at
   newest_held h q = by (newest_of m g t b) refl
     where
-      by : (o : Found) → newest_of m g t b ≡ o → HeldSlot
-      by (At i) e =
-          let s : result_at m g i ≡ z = some-injective (result_at m g i) z (sym (newest_result m g h.slots_fine t b i e) ∙ q) in
+      by : (o : Option ℕ) → newest_of m g t b ≡ o → HeldSlot
+      by (Some i) e =
+          let s : result_at m g i ≡ z = some_same (result_at m g i) z (sym (newest_result m g h.slots_fine t b i e) ∙ q) in
           record { slot = i; held = held_at m g h (blocks t b z.len) i e (ap (λ (x : Result). x.len) s); its = s }
-      by Nothing e = absurd (none-ne-some z (sym (newest_missing m g h.slots_fine t b e) ∙ q))
+      by None e = absurd (none_apart z (sym (newest_missing m g h.slots_fine t b e) ∙ q))

@@ -1,11 +1,10 @@
 -- Source entries that name blocks of other present drives pass their checks.
 use Prim.Native.Nat.{ℕ, zero, suc, ◌+◌, ◌*◌, ◌≤◌, ◌<◌}
 use Rattle.std.proofs.Common.{arith, sym, subst, ◌∙◌}
-use Rattle.std.specs.Prelude.{false, cond, ◌≡◌, List, eqb, length, get_or}
+use Rattle.std.specs.Prelude.{Bool, false, cond, ◌≡◌, List, length, get_or, None, Ok}
 use Rattle.std.proofs.Math.Path.{refl, ap, ap₂}
 use borrow.Author.Tests.{le-ltb, ne_eqb}
 use Rattle.octets.specs.Octets.{Octets}
-use Rattle.folds.specs.declared.Found.TheVariants.{Nothing}
 use Rattle.folds.specs.Each.{EachIs, each_at, each_implies}
 use Rattle.folds.proofs.Least.{least_none}
 use Rattle.geometry.specs.declared.Geometry.{Geometry}
@@ -18,7 +17,6 @@ use Rattle.image.specs.Shelf.{Shelf, shelf_frame}
 use Rattle.command.specs.declared.Source.{Source}
 use Rattle.command.specs.Command.{source_of}
 use Rattle.meaning.specs.declared.Span.{Span}
-use Rattle.meaning.specs.declared.Fault.TheVariants.{Clear}
 use Rattle.meaning.specs.Sources.{is_at, own_entry, drive_bad, entry_bad, or_next, first_bad}
 use Rattle.meaning.specs.Allowed.{NamesOther, Sourced}
 use Rattle.callers.specs.Lists.{source, list_of, entries_of, Fitting, list_long, list_source, list_entries}
@@ -28,24 +26,24 @@ use Rattle.callers.specs.Does.{summing}
 
 module _ (m : List ℕ) (g : Geometry) (a : Came) (x : Span) (s : List ℕ) (n : ℕ) (each : (i : ℕ) → i < n → NamesOther m g a x (source_of s i)) where
   -- none is the target
-  pub no_own : own_entry m g a s n x.drive ≡ Nothing
+  pub no_own : own_entry m g a s n x.drive ≡ None
   unfolding own_entry
   no_own = least_none _ n (λ i l. ap (is_at x.drive) (each i l).found ∙ ne_eqb _ _ (each i l).other)
 
-  entry_clear : (i : ℕ) → i < n → entry_bad m g a s x.count i ≡ Clear
+  entry_clear : (i : ℕ) → i < n → entry_bad m g a s x.count i ≡ Ok tt
   unfolding entry_bad drive_bad
   entry_clear i l =
       let e = each i l in
       ap (drive_bad m g x.count i (source_of s i).block.0) e.found
       ∙ rw (e.present, le-ltb g.b ((source_of s i).block.0 + x.count) e.range.range_in)
 
-  clear_from : (i left : ℕ) → i + left ≤ n → first_bad m g a s x.count i left ≡ Clear
+  clear_from : (i left : ℕ) → i + left ≤ n → first_bad m g a s x.count i left ≡ Ok tt
   unfolding first_bad
   clear_from i zero l = refl
   clear_from i (suc left) l = ap₂ or_next (entry_clear i (omega arith)) (clear_from (i + 1) left (omega arith))
 
   -- and none fails
-  pub all_clear : first_bad m g a s x.count 0 n ≡ Clear
+  pub all_clear : first_bad m g a s x.count 0 n ≡ Ok tt
   all_clear = clear_from 0 n (omega arith)
 
 -- ---- sources as a caller has them
@@ -88,7 +86,7 @@ module _ (m : List ℕ) (g : Geometry) (h : Shelf m g) (a : Came) (x : Span) (b 
   read_all = list_entries b es d (each_implies (Names m g a x) Fitting fits es each)
 
   -- the sources of a list that was written so
-  pub list_sourced : (int : ℕ) → 1 ≤ length es → length d ≡ cond (eqb int 0) 0 (x.count * g.l) → Sourced m g x (summing a int) (list_of b es d)
+  pub list_sourced : (int : Bool) → 1 ≤ length es → length d ≡ cond int (x.count * g.l) 0 → Sourced m g x (summing a int) (list_of b es d)
   list_sourced int one long =
       record {
         some_source = one;

@@ -1,5 +1,5 @@
 -- What one call left the next one finds: blocks written are read, and a result retained is handed out.
-use Rattle.std.specs.Prelude.{ℕ, ◌<◌, List, [], ◌≡◌, refl, length}
+use Rattle.std.specs.Prelude.{ℕ, ◌<◌, false, List, [], ◌≡◌, refl, length}
 use Rattle.std.proofs.Common.{ap, subst, ◌∙◌}
 use Rattle.octets.specs.Xor.{◌⊻◌}
 use Rattle.geometry.specs.declared.Geometry.{Geometry}
@@ -34,7 +34,7 @@ module _ (m : List ℕ) (g : Geometry) (a : Came) (t : ℕ) (h : Target m g a t)
         (read_does wrote g a t h' b n room fits 0 refl small (record { range = w.range; present = h'.present; some = w.some })))
 
   -- XDWRITE with Sec Ctl 11 and then XDREAD, by either code: the old blocks XOR the data, and what was retained before is left
-  module _ (most : Limited g (blocks t b n)) (more : length (results m g) < g.s) (flags : ℕ) (z : XdwriteByte flags 0 0 3) (a' c : ℕ) (la : a' < 16777216) (lc : c < 4294967296) where
+  module _ (most : Limited g (blocks t b n)) (more : length (results m g) < g.s) (flags : ℕ) (z : XdwriteByte flags false false 3) (a' c : ℕ) (la : a' < 16777216) (lc : c < 4294967296) where
     abbrev kept : List ℕ
     kept = step_image m a (xdwrite_cdb flags b n a' c) s r
 

@@ -1,12 +1,12 @@
 -- 01, "Commands", and 02, A1: what the bytes of a CDB and of a parameter list say. Nothing is refused here.
-use Rattle.std.specs.Prelude.{ℕ, ◌+◌, ◌-◌, ◌*◌, ◌/◌, ◌%◌, ◌<◌, List, [], ◌∷◌, cond, ◌≡◌, refl, get_or, leb, eqb}
+use Rattle.std.specs.Prelude.{ℕ, ◌+◌, ◌-◌, ◌*◌, ◌/◌, ◌%◌, ◌<◌, Bool, List, [], ◌∷◌, cond, ◌≡◌, refl, get_or, leb, eqb, Option, Some, None}
 use Rattle.octets.specs.Part.{part}
 use Rattle.octets.specs.Number.{num, be}
 use Rattle.drives.specs.declared.Came.{Came}
 use Rattle.command.specs.declared.Op.{Op}
 use Rattle.command.specs.declared.Op.TheVariants.{XdWrite, XpWrite, XdRead, Rebuild, Regenerate, Read, Write, XdWriteTen, XdWriteRead, Unknown}
 use Rattle.command.specs.declared.Layout.{Layout}
-use Rattle.command.specs.declared.Layout.TheVariants.{Sixteen, Ten, ByList, NoLayout}
+use Rattle.command.specs.declared.Layout.TheVariants.{Sixteen, Ten, ByList}
 use Rattle.command.specs.declared.Command.{Command}
 use Rattle.command.specs.declared.Source.{Source}
 
@@ -75,7 +75,7 @@ pub data Since : Type 0 where
   OfA1 : Since
 
 pub record Traits : Type 0 where
-  pub layout : Layout
+  pub layout : Option Layout
   pub bits : FlagBits
   pub limit : Limit
   pub moves : Moves
@@ -83,29 +83,29 @@ pub record Traits : Type 0 where
   pub keeps : Keeping
   pub since : Since
 
-abbrev row : Layout → FlagBits → Limit → Moves → Works → Keeping → Since → Traits
+abbrev row : Option Layout → FlagBits → Limit → Moves → Works → Keeping → Since → Traits
 row layout bits limit moves works keeps since =
     record { layout = layout; bits = bits; limit = limit; moves = moves; works = works; keeps = keeps; since = since }
 
 -- 01's "Code | Command | Length | Fields" and A1's, operation by operation
 abbrev pub has : Op → Traits
-has XdWrite = row Sixteen SecBits UpToM DataSent OnBlocks WithEleven Of1994
-has XpWrite = row Ten CacheBits UpToM DataSent OnBlocks Never Of1994
-has XdRead = row Ten NoBits NoLimit HandedOut OnResult Never Of1994
-has Rebuild = row ByList ListBits NotToEnd ListSent OnBlocks Never Of1994
-has Regenerate = row ByList ListBits UpToM ListSent OnBlocks Always Of1994
-has Read = row Ten CacheBits NoLimit HandedOut OnBlocks Never Of1994
-has Write = row Ten CacheBits NoLimit DataSent OnBlocks Never Of1994
-has XdWriteTen = row Ten DisableBits UpToM DataSent OnBlocks Always OfA1
-has XdWriteRead = row Ten DisableBits UpToM Exchanged OnBlocks Never OfA1
-has Unknown = row NoLayout AnyBits NoLimit NoBytes OnBlocks Never Of1994
+has XdWrite = row (Some Sixteen) SecBits UpToM DataSent OnBlocks WithEleven Of1994
+has XpWrite = row (Some Ten) CacheBits UpToM DataSent OnBlocks Never Of1994
+has XdRead = row (Some Ten) NoBits NoLimit HandedOut OnResult Never Of1994
+has Rebuild = row (Some ByList) ListBits NotToEnd ListSent OnBlocks Never Of1994
+has Regenerate = row (Some ByList) ListBits UpToM ListSent OnBlocks Always Of1994
+has Read = row (Some Ten) CacheBits NoLimit HandedOut OnBlocks Never Of1994
+has Write = row (Some Ten) CacheBits NoLimit DataSent OnBlocks Never Of1994
+has XdWriteTen = row (Some Ten) DisableBits UpToM DataSent OnBlocks Always OfA1
+has XdWriteRead = row (Some Ten) DisableBits UpToM Exchanged OnBlocks Never OfA1
+has Unknown = row None AnyBits NoLimit NoBytes OnBlocks Never Of1994
 
 -- "Length"
-abbrev pub size_by : Layout → ℕ
-size_by Sixteen = 16
-size_by Ten = 10
-size_by ByList = 10
-size_by NoLayout = 0
+abbrev pub size_by : Option Layout → ℕ
+size_by (Some Sixteen) = 16
+size_by (Some Ten) = 10
+size_by (Some ByList) = 10
+size_by None = 0
 
 abbrev pub size_of : Op → ℕ
 size_of o = size_by (has o).layout
@@ -176,35 +176,35 @@ listed_of o a c =
     }
 
 -- "Fields"
-abbrev pub command_by : Layout → Op → Came → List ℕ → Command
-command_by Sixteen o a c = sixteen_of o a c
-command_by Ten o a c = ten_of o a c
-command_by ByList o a c = listed_of o a c
-command_by NoLayout o a c = ten_of o a c
+abbrev pub command_by : Option Layout → Op → Came → List ℕ → Command
+command_by (Some Sixteen) o a c = sixteen_of o a c
+command_by (Some Ten) o a c = ten_of o a c
+command_by (Some ByList) o a c = listed_of o a c
+command_by None o a c = ten_of o a c
 
 abbrev pub command_of : Op → Came → List ℕ → Command
 command_of o a c = command_by (has o).layout o a c
 
 -- XDWRITE: "bit 6 Mirror, 5 NDisc, .., 2-1 Sec Ctl"
-abbrev pub mirror_of : Command → ℕ
-mirror_of k = k.flags / 64 % 2
+abbrev pub mirror_of : Command → Bool
+mirror_of k = eqb (k.flags / 64 % 2) 1
 
-abbrev pub ndisc_of : Command → ℕ
-ndisc_of k = k.flags / 32 % 2
+abbrev pub ndisc_of : Command → Bool
+ndisc_of k = eqb (k.flags / 32 % 2) 1
 
 abbrev pub sec_of : Command → ℕ
 sec_of k = k.flags / 2 % 4
 
 -- REBUILD and REGENERATE: "bit 2 Int Data, 1-0 Sec Ctl"
-abbrev pub int_of : Command → ℕ
-int_of k = k.flags / 4 % 2
+abbrev pub int_of : Command → Bool
+int_of k = eqb (k.flags / 4 % 2) 1
 
 abbrev pub list_sec_of : Command → ℕ
 list_sec_of k = k.flags % 4
 
 -- 50h and 53h: "2 DISABLE WRITE"
-abbrev pub disable_of : Command → ℕ
-disable_of k = k.flags / 4 % 2
+abbrev pub disable_of : Command → Bool
+disable_of k = eqb (k.flags / 4 % 2) 1
 
 -- each field fits its bytes
 pub record Fits (k : Command) : Type 0 where
@@ -261,7 +261,7 @@ resolved_of k B =
 
 -- "list length plus, with Int Data, length*L, or nothing if the list length is 0"
 unfoldable pub list_bytes : Command → ℕ → ℕ
-list_bytes k L = cond (eqb k.list 0) 0 (cond (eqb (int_of k) 0) k.list (k.list + k.count * L))
+list_bytes k L = cond (eqb k.list 0) 0 (cond (int_of k) (k.list + k.count * L) k.list)
 
 -- ---- three of them
 

@@ -1,4 +1,5 @@
 pub mod Command
+pub mod Headed
 pub mod Flags
 pub mod Length
 pub mod Sent

@@ -1,5 +1,5 @@
 -- Nothing is lost: a CDB can be written back from its command.
-use Rattle.std.specs.Prelude.{ℕ, ◌+◌, ◌≤◌, ◌<◌, List, [], ◌∷◌, ◌++◌, ◌≡◌, refl, length, get_or}
+use Rattle.std.specs.Prelude.{ℕ, ◌+◌, ◌≤◌, ◌<◌, List, [], ◌∷◌, ◌++◌, ◌≡◌, refl, length, get_or, Option, Some, None}
 use Rattle.std.proofs.Common.{zero-add, arith, sym, ◌∙◌}
 use Rattle.std.proofs.Math.Path.{ap}
 use Rattle.octets.specs.Octets.{Octets}
@@ -9,16 +9,16 @@ use Rattle.drives.specs.declared.Came.{Came}
 use Rattle.command.specs.declared.Op.{Op}
 use Rattle.command.specs.declared.Command.{Command}
 use Rattle.command.specs.declared.Layout.{Layout}
-use Rattle.command.specs.declared.Layout.TheVariants.{Sixteen, Ten, ByList, NoLayout}
+use Rattle.command.specs.declared.Layout.TheVariants.{Sixteen, Ten, ByList}
 use Rattle.command.specs.Command.{has, size_by, size_of, sixteen_of, ten_of, listed_of, command_by, command_of}
 
 -- a decoded command keeps its operation, and how it came
-by_kept : (l : Layout) (o : Op) (a : Came) (c : List ℕ) → ((command_by l o a c).op ≡ o) × ((command_by l o a c).came ≡ a)
+by_kept : (l : Option Layout) (o : Op) (a : Came) (c : List ℕ) → ((command_by l o a c).op ≡ o) × ((command_by l o a c).came ≡ a)
 unfolding sixteen_of ten_of listed_of
-by_kept Sixteen o a c = (refl, refl)
-by_kept Ten o a c = (refl, refl)
-by_kept ByList o a c = (refl, refl)
-by_kept NoLayout o a c = (refl, refl)
+by_kept (Some Sixteen) o a c = (refl, refl)
+by_kept (Some Ten) o a c = (refl, refl)
+by_kept (Some ByList) o a c = (refl, refl)
+by_kept None o a c = (refl, refl)
 
 pub command_kept : (o : Op) (a : Came) (c : List ℕ) → ((command_of o a c).op ≡ o) × ((command_of o a c).came ≡ a)
 command_kept o = by_kept (has o).layout o
@@ -37,19 +37,19 @@ ten_bytes k = head_of k ++ to_be 4 k.block.0 ++ k.six ∷ [] ++ to_be 2 k.count 
 abbrev listed_bytes : Command → List ℕ
 listed_bytes k = head_of k ++ to_be 4 k.count ++ k.six ∷ [] ++ to_be 2 k.list ++ k.control ∷ []
 
-abbrev pub bytes_by : Layout → Command → List ℕ
-bytes_by Sixteen k = sixteen_bytes k
-bytes_by Ten k = ten_bytes k
-bytes_by ByList k = listed_bytes k
-bytes_by NoLayout k = []
+abbrev pub bytes_by : Option Layout → Command → List ℕ
+bytes_by (Some Sixteen) k = sixteen_bytes k
+bytes_by (Some Ten) k = ten_bytes k
+bytes_by (Some ByList) k = listed_bytes k
+bytes_by None k = []
 
 -- the bytes that a command is written as
 unfoldable pub cdb_of : Command → List ℕ
 cdb_of k = bytes_by (has k.op).layout k
 
-pub bytes_by_lem : (k : Command) (l : Layout) → (has k.op).layout ≡ l → cdb_of k ≡ bytes_by l k
+pub bytes_by_lem : (k : Command) (l : Option Layout) → (has k.op).layout ≡ l → cdb_of k ≡ bytes_by l k
 unfolding cdb_of
-bytes_by_lem k l e = ap (λ (x : Layout). bytes_by x k) e
+bytes_by_lem k l e = ap (λ (x : Option Layout). bytes_by x k) e
 
 module _ (a : Came) (c : List ℕ) (b : Octets c) where
   -- the front of the CDB is written: a byte more (a number more is `be_on`)
@@ -74,12 +74,12 @@ module _ (a : Came) (c : List ℕ) (b : Octets c) where
       → get_or c 0 0 ∷ get_or c 1 0 ∷ [] ++ to_be 4 (be 4 c 2) ++ get_or c 6 0 ∷ [] ++ to_be 2 (be 2 c 7) ++ get_or c 9 0 ∷ [] ≡ c
   ten_back l = byte 9 (omega arith) (be_on c b 2 7 (omega arith) (byte 6 (omega arith) (be_on c b 4 2 (omega arith) (head (omega arith))))) ∙ all 10 l
 
-  by_layout : (l : Layout) (o : Op) → length c ≡ size_by l → bytes_by l (command_by l o a c) ≡ c
+  by_layout : (l : Option Layout) (o : Op) → length c ≡ size_by l → bytes_by l (command_by l o a c) ≡ c
   unfolding sixteen_of ten_of listed_of part
-  by_layout Sixteen o l = sixteen_back l
-  by_layout Ten o l = ten_back l
-  by_layout ByList o l = ten_back l
-  by_layout NoLayout o l = all 0 l
+  by_layout (Some Sixteen) o l = sixteen_back l
+  by_layout (Some Ten) o l = ten_back l
+  by_layout (Some ByList) o l = ten_back l
+  by_layout None o l = all 0 l
 
   -- a CDB of a command's length is what the command is written as
   pub lossless : (o : Op) → length c ≡ size_of o → cdb_of (command_of o a c) ≡ c

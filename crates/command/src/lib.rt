@@ -5,11 +5,14 @@
 
 ghost use Rattle.std.specs.Prelude.{◌≡◌, ◌+◌, ◌*◌, ◌<◌, ◌≤◌, length};
 ghost use Rattle.geometry.specs.Frame.{InRange};
-ghost use Rattle.command.specs.Command.{op_of_1994, op_of, has, size_of, zero_bits, sixteen_of, ten_of, listed_of, command_of, mirror_of, ndisc_of, sec_of, int_of, list_sec_of, disable_of, Fits, own_of, source_of, resolved_of, list_bytes};
+ghost use Rattle.command.specs.Headed.{headed_of};
+ghost use Rattle.command.specs.Command.{op_of, has, size_of, zero_bits, command_of, mirror_of, ndisc_of, sec_of, int_of, list_sec_of, disable_of, Fits, own_of, source_of, resolved_of, list_bytes};
 
 use drives::Came;
 use geometry::{Address, Block, Geometry};
 
+// What a code asks for. A code that 01 does not know is an operation too, and not none: `has` and the laws over all
+// operations name it.
 #[derive(Clone, Copy)]
 pub enum Op {
     XdWrite,
@@ -25,16 +28,17 @@ pub enum Op {
     Unknown,
 }
 
-// How a CDB is laid out: 16 bytes, 10 bytes, 10 bytes for a list; an unknown code has no layout.
+// How a CDB is laid out: 16 bytes, 10 bytes, 10 bytes for a list.
 #[derive(Clone, Copy)]
 pub enum Layout {
     Sixteen,
     Ten,
     ByList,
-    NoLayout,
 }
 
-// What a CDB says. A field that the command lacks is 0.
+// What a CDB says. A field that the command lacks is 0. `Fits` stays a clause of the methods here: `command_of`
+// makes a command of any list, so no ghost field can hold it, and two functions of `decide_one` read a field
+// and pass the whole, which gets no proof behind a model. A command that is checked has it in `decide_one::Call`.
 #[derive(Clone, Copy)]
 pub struct Command {
     // byte 0 as it was sent: two codes say XPWRITE, two say XDREAD
@@ -63,78 +67,56 @@ pub struct Source {
     pub block: Block,
 }
 
-// The published codes, and then those of 1994.
+// The published codes, and those of 1994.
+impl From<usize> for Op {
+    ghost from_gives = { λ code op. op ≡ op_of code };
+
+    #[tactic(auto, unfolding(crate::specs::Command::op_of))]
+    fn from(code: usize) -> Op {
+        match code {
+            0x28 => Op::Read,
+            0x2A => Op::Write,
+            0x50 => Op::XdWriteTen,
+            0x51 | 0xC1 => Op::XpWrite,
+            0x52 | 0xC2 => Op::XdRead,
+            0x53 => Op::XdWriteRead,
+            0xC0 => Op::XdWrite,
+            0xC3 => Op::Rebuild,
+            0xC4 => Op::Regenerate,
+            _ => Op::Unknown,
+        }
+    }
+}
+
+// The operation of a code, by name, as the law `op_of_once` has it.
 pub fn op_of(code: usize) -> Op
     ensures { result ≡ op_of code }
 {
-    if code == 0x50 {
-        return Op::XdWriteTen;
-    }
-    if code == 0x51 {
-        return Op::XpWrite;
-    }
-    if code == 0x52 {
-        return Op::XdRead;
-    }
-    if code == 0x53 {
-        return Op::XdWriteRead;
-    }
-    op_of_1994(code)
+    Op::from(code)
 }
 
-fn op_of_1994(code: usize) -> Op
-    ensures { result ≡ op_of_1994 code }
-{
-    if code == 0xC0 {
-        return Op::XdWrite;
-    }
-    if code == 0xC1 {
-        return Op::XpWrite;
-    }
-    if code == 0xC2 {
-        return Op::XdRead;
-    }
-    if code == 0xC3 {
-        return Op::Rebuild;
-    }
-    if code == 0xC4 {
-        return Op::Regenerate;
-    }
-    if code == 0x28 {
-        return Op::Read;
-    }
-    if code == 0x2A {
-        return Op::Write;
-    }
-    Op::Unknown
-}
-
-fn layout_of(op: Op) -> Layout
+// The layout of an operation's CDB; an unknown code has none.
+fn layout_of(op: Op) -> Option<Layout>
     ensures { result ≡ (has op).layout }
 {
     match op {
-        Op::XdWrite => Layout::Sixteen,
-        Op::XpWrite => Layout::Ten,
-        Op::XdRead => Layout::Ten,
-        Op::Rebuild => Layout::ByList,
-        Op::Regenerate => Layout::ByList,
-        Op::Read => Layout::Ten,
-        Op::Write => Layout::Ten,
-        Op::XdWriteTen => Layout::Ten,
-        Op::XdWriteRead => Layout::Ten,
-        Op::Unknown => Layout::NoLayout,
+        Op::XdWrite => Some(Layout::Sixteen),
+        Op::Rebuild | Op::Regenerate => Some(Layout::ByList),
+        Op::XpWrite | Op::XdRead | Op::Read | Op::Write | Op::XdWriteTen | Op::XdWriteRead => Some(
+            Layout::Ten,
+        ),
+        Op::Unknown => None,
     }
 }
 
-// How many bytes a CDB has; 0 for an unknown code.
+// How many bytes a CDB has; 0 for an unknown code, which is how 01's checks know one (`is_unknown`).
 pub fn size_of(op: Op) -> usize
     ensures { result ≡ size_of op }
 {
     match layout_of(op) {
-        Layout::Sixteen => 16,
-        Layout::Ten => 10,
-        Layout::ByList => 10,
-        Layout::NoLayout => 0,
+        Some(Layout::Sixteen) => 16,
+        Some(Layout::Ten | Layout::ByList) => 10,
+        None => 0,
     }
 }
 
@@ -144,105 +126,83 @@ pub fn zero_bits(op: Op) -> usize
 {
     match op {
         Op::XdWrite => 0x81,
-        Op::XpWrite => 0xE7,
+        Op::XpWrite | Op::Read | Op::Write => 0xE7,
         Op::XdRead => 0xFF,
-        Op::Rebuild => 0xF8,
-        Op::Regenerate => 0xF8,
-        Op::Read => 0xE7,
-        Op::Write => 0xE7,
-        Op::XdWriteTen => 0xE3,
-        Op::XdWriteRead => 0xE3,
+        Op::Rebuild | Op::Regenerate => 0xF8,
+        Op::XdWriteTen | Op::XdWriteRead => 0xE3,
         Op::Unknown => 0,
     }
 }
 
 impl Command {
-    // The command in a CDB of its length. An unknown code has none.
+    // The command in a CDB of its length; no CDB has that of an unknown code.
+    #[tactic(auto, unfolding(crate::specs::Command::sixteen_of, crate::specs::Command::ten_of, crate::specs::Command::listed_of))]
     pub fn decode(op: Op, came: Came, cdb: &[u8]) -> Command
         requires { (length cdb.now ≡ size_of op) × (size_of op ≡ 0 → ⊥) }
         ensures { (result ≡ command_of op came cdb.now) × Fits result }
     {
+        let head = Command::headed(op, came, cdb);
         match layout_of(op) {
-            Layout::Sixteen => Command::sixteen(op, came, cdb),
-            Layout::Ten => Command::ten(op, came, cdb),
-            Layout::ByList => Command::listed(op, came, cdb),
-            Layout::NoLayout => Command::ten(op, came, cdb),
+            // block 2-5, length 6-7, secondary address 8-10, secondary block 11-14
+            Some(Layout::Sixteen) => Command {
+                block: Block(octets::be::<4>(cdb, 2)),
+                count: octets::be::<2>(cdb, 6),
+                second: Address(octets::be::<3>(cdb, 8)),
+                spot: Block(octets::be::<4>(cdb, 11)),
+                ..head
+            },
+            // block 2-5, length 7-8
+            Some(Layout::Ten) => Command {
+                six: octets::byte(cdb, 6),
+                block: Block(octets::be::<4>(cdb, 2)),
+                count: octets::be::<2>(cdb, 7),
+                ..head
+            },
+            // length 2-5, list length 7-8
+            Some(Layout::ByList) => Command {
+                six: octets::byte(cdb, 6),
+                count: octets::be::<4>(cdb, 2),
+                list: octets::be::<2>(cdb, 7),
+                ..head
+            },
+            None => unreachable!(),
         }
     }
 
-    // block 2-5, length 6-7, secondary address 8-10, secondary block 11-14
-    fn sixteen(op: Op, came: Came, cdb: &[u8]) -> Command
-        requires { length cdb.now ≡ 16 }
-        ensures { (result ≡ sixteen_of op came cdb.now) × Fits result }
+    // What every CDB has: its code, byte 1, and the last byte.
+    fn headed(op: Op, came: Came, cdb: &[u8]) -> Command
+        requires { 2 ≤ length cdb.now }
+        ensures { (result ≡ headed_of op came cdb.now) × Fits result }
     {
         Command {
             code: octets::byte(cdb, 0),
-            op: op,
-            came: came,
+            op,
+            came,
             flags: octets::byte(cdb, 1),
             six: 0,
-            control: octets::byte(cdb, 15),
-            block: Block(octets::be4(cdb, 2)),
-            count: octets::be2(cdb, 6),
-            list: 0,
-            second: Address(octets::be3(cdb, 8)),
-            spot: Block(octets::be4(cdb, 11)),
-        }
-    }
-
-    // block 2-5, length 7-8
-    fn ten(op: Op, came: Came, cdb: &[u8]) -> Command
-        requires { length cdb.now ≡ 10 }
-        ensures { (result ≡ ten_of op came cdb.now) × Fits result }
-    {
-        Command {
-            code: octets::byte(cdb, 0),
-            op: op,
-            came: came,
-            flags: octets::byte(cdb, 1),
-            six: octets::byte(cdb, 6),
-            control: octets::byte(cdb, 9),
-            block: Block(octets::be4(cdb, 2)),
-            count: octets::be2(cdb, 7),
-            list: 0,
-            second: Address(0),
-            spot: Block(0),
-        }
-    }
-
-    // length 2-5, list length 7-8
-    fn listed(op: Op, came: Came, cdb: &[u8]) -> Command
-        requires { length cdb.now ≡ 10 }
-        ensures { (result ≡ listed_of op came cdb.now) × Fits result }
-    {
-        Command {
-            code: octets::byte(cdb, 0),
-            op: op,
-            came: came,
-            flags: octets::byte(cdb, 1),
-            six: octets::byte(cdb, 6),
-            control: octets::byte(cdb, 9),
+            control: octets::byte(cdb, cdb.len() - 1),
             block: Block(0),
-            count: octets::be4(cdb, 2),
-            list: octets::be2(cdb, 7),
+            count: 0,
+            list: 0,
             second: Address(0),
             spot: Block(0),
         }
     }
 
     // XDWRITE's bits
-    pub fn mirror(self) -> usize
-        ensures { (result ≡ mirror_of self) × (result < 2) }
+    pub fn mirror(self) -> bool
+        ensures { result ≡ mirror_of self }
     {
-        self.flags / 64 % 2
+        self.flags / 64 % 2 == 1
     }
 
-    pub fn ndisc(self) -> usize
-        ensures { (result ≡ ndisc_of self) × (result < 2) }
+    pub fn ndisc(self) -> bool
+        ensures { result ≡ ndisc_of self }
     {
-        self.flags / 32 % 2
+        self.flags / 32 % 2 == 1
     }
 
+    // Two bits, which 01 writes as a number, 00 to 11; the definitions compare it with these.
     pub fn sec(self) -> usize
         ensures { (result ≡ sec_of self) × (result < 4) }
     {
@@ -250,77 +210,80 @@ impl Command {
     }
 
     // REBUILD's and REGENERATE's
-    pub fn int(self) -> usize
-        ensures { (result ≡ int_of self) × (result < 2) }
+    pub fn int(self) -> bool
+        ensures { result ≡ int_of self }
     {
-        self.flags / 4 % 2
+        self.flags / 4 % 2 == 1
     }
 
+    // as `sec`
     pub fn list_sec(self) -> usize
         ensures { (result ≡ list_sec_of self) × (result < 4) }
     {
         self.flags % 4
     }
 
-    // DISABLE WRITE of 50h and 53h
-    pub fn disable(self) -> usize
-        ensures { (result ≡ disable_of self) × (result < 2) }
+    // DISABLE WRITE of 50h and 53h: the same bit under A1's name, which `disable_of` has
+    pub fn disable(self) -> bool
+        ensures { result ≡ disable_of self }
     {
-        self.flags / 4 % 2
+        self.flags / 4 % 2 == 1
     }
 
     // The command at the block that its list names.
-    pub fn own(mut self, sent: &[u8]) -> Self
+    #[tactic(auto, unfolding(crate::specs::Command::own_of))]
+    pub fn own(self, sent: &[u8]) -> Self
         requires { (8 ≤ length sent.now) × Fits self }
         ensures { (result ≡ own_of self sent.now) × Fits result }
     {
-        let block = Block(octets::be4(sent, 4));
-        self.block = block;
-        self
+        Command {
+            block: Block(octets::be::<4>(sent, 4)),
+            ..self
+        }
     }
 
     // The length FFFFFFFFh means to the last block. Where no block is left it stays, and is then
     // beyond the last one.
-    pub fn resolve(mut self, g: Geometry) -> Self
+    #[tactic(auto, unfolding(crate::specs::Command::resolved_of))]
+    pub fn resolve(self, g: Geometry) -> Self
         requires { InRange g × Fits self }
         ensures { (result ≡ resolved_of self g.b) × Fits result }
     {
-        let blocks = g.b;
-        if self.count != 0xFFFFFFFF {
+        if self.count != 0xFFFFFFFF || self.block.0 >= g.b {
             return self;
         }
-        if self.block.0 < blocks {
-            self.count = blocks - self.block.0;
+        Command {
+            count: g.b - self.block.0,
+            ..self
         }
-        self
     }
 
     // How many bytes a command with a parameter list sends.
+    #[tactic(auto, unfolding(crate::specs::Command::list_bytes))]
     pub fn list_bytes(self, g: Geometry) -> usize
         requires { InRange g × Fits self }
         ensures { result ≡ list_bytes self g.l }
     {
-        let list = self.list;
-        let size = g.l;
-        if list == 0 {
+        if self.list == 0 {
             return 0;
         }
-        if self.int() == 0 {
-            return list;
+        if self.int() {
+            return self.list + self.count * g.l;
         }
-        list + self.count * size
+        self.list
     }
 }
 
 impl Source {
     // Entry i of the list.
+    #[tactic(auto, unfolding(crate::specs::Command::source_of))]
     pub fn read(sent: &[u8], i: usize) -> Source
         requires { 16 + 8 * i ≤ length sent.now }
         ensures { (result ≡ source_of sent.now i) × (result.address.0 < 4294967296) × (result.block.0 < 4294967296) }
     {
         Source {
-            address: Address(octets::be4(sent, 8 + 8 * i)),
-            block: Block(octets::be4(sent, 8 + 8 * i + 4)),
+            address: Address(octets::be::<4>(sent, 8 + 8 * i)),
+            block: Block(octets::be::<4>(sent, 8 + 8 * i + 4)),
         }
     }
 }

@@ -16,7 +16,7 @@ use Rattle.command.specs.declared.Command.{Command}
 use Rattle.command.specs.Command.{op_of, size_of, zero_bits, command_of, sec_of, own_of, resolved_of}
 use Rattle.command.specs.Lossless.{command_kept}
 use Rattle.meaning.specs.declared.Seen.TheVariants.{Cdb, Drive}
-use Rattle.meaning.specs.declared.Decision.TheVariants.{Stop}
+use Rattle.meaning.specs.Decision.{stop}
 use Rattle.meaning.specs.Checks.{decide_of}
 use Rattle.decide_one.specs.Stages.{roomy_of, plain_stage, limited_stage, read_of, write_of, xpwrite_of, xdread_of, matched_of, answered_of, retained_of, xdwrite_ten_of, xdwriteread_of}
 use Rattle.decide_two.specs.Stages.{check_10_of, check10, from_check_9, limited_of, xdwrite_of}
@@ -56,7 +56,7 @@ module _ (m : List ℕ) (g : Geometry) (t : ℕ) (k : Command) (s : List ℕ) (r
 
 module _ (m : List ℕ) (g : Geometry) (t : ℕ) (k : Command) (s : List ℕ) (r : ℕ) (o : Op) where
   module _ (bits : ℕ) (e : bits ≡ zero_bits o) where
-    pub flags_bad : (bit_and k.flags bits ≡ 0 → ⊥) → Stop 4 (Cdb 1) BadField ≡ flagged_of o m g t k s r
+    pub flags_bad : (bit_and k.flags bits ≡ 0 → ⊥) → stop 4 (Cdb 1) BadField ≡ flagged_of o m g t k s r
     unfolding flagged_of
     flags_bad h = rw (ne_eqb (bit_and k.flags (zero_bits o)) 0 (λ q. h (ap (bit_and k.flags) e ∙ q)))
 
@@ -67,7 +67,7 @@ module _ (m : List ℕ) (g : Geometry) (t : ℕ) (k : Command) (s : List ℕ) (r
 
 module _ (m : List ℕ) (g : Geometry) (a : Came) (t : ℕ) (c s : List ℕ) (r : ℕ) where
   pub check_2_failed : (o : Op) → (size_of o ≡ 0 → ⊥) → length c ≡ size_of o → failed m g t ≡ true
-      → Stop 3 (Drive t) TargetFailed ≡ from_check_2 o m g a t c s r
+      → stop 3 (Drive t) TargetFailed ≡ from_check_2 o m g a t c s r
   unfolding from_check_2
   check_2_failed o z l f = rw (ne_eqb (size_of o) 0 z, eq-eqb (length c) (size_of o) l, f)
 

@@ -2,8 +2,8 @@
 use borrow.Fn.Kinds.{Out}
 use Rattle.decide_list.proofs as decide_list
 
-abbrev pub listed : Out 2 decide_list.list.listed.Kinds.ps decide_list.list.listed.Kinds.r
+abbrev pub listed : Out 1 decide_list.list.listed.Kinds.ps decide_list.list.listed.Kinds.r
 listed = decide_list.list.listed.Reads.Post
 
-abbrev pub placed : Out 2 decide_list.sources.placed.Kinds.ps decide_list.sources.placed.Kinds.r
+abbrev pub placed : Out 1 decide_list.sources.placed.Kinds.ps decide_list.sources.placed.Kinds.r
 placed = decide_list.sources.placed.Reads.Post

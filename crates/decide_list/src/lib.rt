@@ -7,90 +7,44 @@ mod list;
 mod sources;
 
 ghost use Rattle.std.specs.Prelude.{◌≡◌};
-ghost use Rattle.geometry.specs.Frame.{Framed};
-ghost use Rattle.command.specs.Command.{Fits, list_bytes};
-ghost use Rattle.decide_list.specs.Stages.{unbounded, rebuild_of, regenerate_of, fields_of, counted_of};
+ghost use Rattle.decide_list.specs.Stages.{unbounded, rebuild_of, regenerate_of, fields_of};
 
 use command::Command;
-use geometry::Geometry;
-use meaning::{Decision, Seen};
+use decide_one::Call;
+use meaning::{Decision, Seen, check};
 use sense::Answer;
 
-pub fn rebuild(image: &[u8], g: Geometry, t: usize, k: Command, sent: &[u8]) -> Decision
-    requires { Framed image.now g × Fits k }
-    ensures { result ≡ rebuild_of image.now g t k sent.now }
+pub fn rebuild(call: Call<'_>) -> Decision
+    ensures { let c = call.entry in result ≡ rebuild_of c.shelf.image.now c.shelf.g c.target c.command c.sent.now }
 {
-    fields(false, unbounded(k), image, g, t, k, sent)
+    fields(call, false, unbounded(call.command))
 }
 
-pub fn regenerate(image: &[u8], g: Geometry, t: usize, k: Command, sent: &[u8]) -> Decision
-    requires { Framed image.now g × Fits k }
-    ensures { result ≡ regenerate_of image.now g t k sent.now }
+pub fn regenerate(call: Call<'_>) -> Decision
+    ensures { let c = call.entry in result ≡ regenerate_of c.shelf.image.now c.shelf.g c.target c.command c.sent.now }
 {
-    let limit = g.m;
-    fields(true, limit < k.count, image, g, t, k, sent)
+    fields(call, true, call.shelf.g.m < call.command.count)
 }
 
 // Is it the length FFFFFFFFh with Int Data?
 fn unbounded(k: Command) -> bool
     ensures { result ≡ unbounded k }
 {
-    let int = k.int();
-    if int == 0 {
-        return false;
-    }
-    k.count == 0xFFFFFFFF
+    k.int() && k.count == 0xFFFFFFFF
 }
 
-// Check 4 from Sec Ctl to the length, which is refused where `long` says so.
-fn fields(
-    keep: bool,
-    long: bool,
-    image: &[u8],
-    g: Geometry,
-    t: usize,
-    k: Command,
-    sent: &[u8],
-) -> Decision
-    requires { Framed image.now g × Fits k }
-    ensures { result ≡ fields_of keep long image.now g t k sent.now }
+// Checks 4 and 5. The length is refused where `long` says so.
+fn fields(call: Call<'_>, keep: bool, long: bool) -> Decision
+    ensures { let c = call.entry in result ≡ fields_of keep long c.shelf.image.now c.shelf.g c.target c.command c.sent.now }
 {
+    let k = call.command;
     let sec = k.list_sec();
-    if sec == 1 {
-        return Decision::Stop(4, Seen::Cdb(1), Answer::BadField);
-    }
-    if sec == 3 {
-        return Decision::Stop(4, Seen::Cdb(1), Answer::BadField);
-    }
-    if long {
-        return Decision::Stop(4, Seen::Cdb(2), Answer::BadField);
-    }
-    counted(keep, k.list_bytes(g), image, g, t, k, sent)
-}
-
-// The rest of check 4, and check 5: `due` bytes are sent.
-fn counted(
-    keep: bool,
-    due: usize,
-    image: &[u8],
-    g: Geometry,
-    t: usize,
-    k: Command,
-    sent: &[u8],
-) -> Decision
-    requires { Framed image.now g × Fits k × (due ≡ list_bytes k g.l) }
-    ensures { result ≡ counted_of keep due image.now g t k sent.now }
-{
-    let six = k.six;
-    let control = k.control;
-    if six != 0 {
-        return Decision::Stop(4, Seen::Cdb(6), Answer::BadField);
-    }
-    if control != 0 {
-        return Decision::Stop(4, Seen::Cdb(9), Answer::BadField);
-    }
-    if sent.len() != due {
-        return Decision::Stop(5, Seen::Dash, Answer::WrongCount);
-    }
-    list::listed(keep, image, g, t, k, sent)
+    let due = k.list_bytes(call.shelf.g);
+    check(sec == 1, 4, Seen::Cdb(1), Answer::BadField)?;
+    check(sec == 3, 4, Seen::Cdb(1), Answer::BadField)?;
+    check(long, 4, Seen::Cdb(2), Answer::BadField)?;
+    check(k.six != 0, 4, Seen::Cdb(6), Answer::BadField)?;
+    check(k.control != 0, 4, Seen::Cdb(9), Answer::BadField)?;
+    check(call.sent.len() != due, 5, Seen::Dash, Answer::WrongCount)?;
+    list::listed(call, keep)
 }

@@ -7,63 +7,54 @@ mod newest;
 mod plain;
 mod xdwrite;
 
-ghost use Rattle.std.specs.Prelude.{◌≡◌};
-ghost use Rattle.geometry.specs.Frame.{InRange};
-ghost use Rattle.sense.specs.declared.Answer.TheVariants.{Good};
+ghost use Rattle.std.specs.Prelude.{◌≡◌, ◌*◌};
 ghost use Rattle.command.specs.Command.{Fits};
-ghost use Rattle.meaning.specs.declared.Decision.TheVariants.{Go};
 ghost use Rattle.meaning.specs.Checks.{span_of};
-ghost use Rattle.decide_one.specs.Stages.{roomy_verdict, stands};
+ghost use Rattle.decide_one.specs.Stages.{roomy_verdict};
 
 use command::Command;
-use geometry::Geometry;
-use meaning::{Act, Decision, Seen, Span};
+use geometry::Frame;
+use meaning::{Seen, Span, Stop};
 pub use newest::xdread;
 pub use plain::{read, write, xpwrite};
 use sense::Answer;
 pub use xdwrite::{retained, xdwrite_ten, xdwriteread};
 
-// The blocks of drive t that the command names.
-pub fn span(t: usize, k: Command) -> Span
-    ensures { result ≡ span_of t k }
-{
-    let block = k.block;
-    Span {
-        drive: t,
-        block: block,
-        count: k.count,
-    }
-}
-
-// What a run of checks says: the first that applies, or that none does. Small beside a decision, which
-// holds an act.
+// A command on its way through the checks: the shelf, the target's index in the table, the command, the
+// bytes sent with it, and how long the receive room is.
 #[derive(Clone, Copy)]
-enum Verdict {
-    Refuse(usize, Seen, Answer),
-    Pass,
+pub struct Call<'a> {
+    pub shelf: Frame<'a>,
+    pub target: usize,
+    pub command: Command,
+    pub sent: &'a [u8],
+    pub room: usize,
+    ghost fits: { Fits command },
 }
 
-// Check 11, after the checks before it.
-fn roomy(v: Verdict, g: Geometry, k: Command, room: usize) -> Verdict
-    requires { InRange g × Fits k }
-    ensures { result ≡ roomy_verdict v g k room }
-{
-    let due = k.count * g.l;
-    if let Verdict::Refuse(_, _, _) = v {
-        return v;
+impl<'a> Call<'a> {
+    // The target's blocks that the command names.
+    pub fn span(self) -> Span
+        ensures { let c = self.entry in result ≡ span_of c.target c.command }
+    {
+        Span {
+            drive: self.target,
+            block: self.command.block,
+            count: self.command.count,
+        }
     }
-    if room < due {
-        return Verdict::Refuse(11, Seen::Dash, Answer::ShortRoom);
-    }
-    Verdict::Pass
-}
 
-// Where no check applies the act is done.
-fn settle(v: Verdict, act: Act) -> Decision
-    ensures { result ≡ stands v (Go act Good) }
-{
-    if let Verdict::Refuse(n, seen, answer) = v {
-        return Decision::Stop(n, seen, answer);
+    // How many bytes these have.
+    pub fn bytes(self) -> usize
+        ensures { let c = self.entry in result ≡ c.command.count * c.shelf.g.l }
+    {
+        self.command.count * self.shelf.g.l
     }
-    Decision::Go(act, Answer::Good)
+
+    // Check 11.
+    fn roomy(self) -> Result<(), Stop>
+        ensures { let c = self.entry in result ≡ roomy_verdict (Ok tt) c.shelf.g c.command c.room }
+    {
+        meaning::check(self.room < self.bytes(), 11, Seen::Dash, Answer::ShortRoom)
+    }
 }

@@ -1,5 +1,5 @@
 -- Resets and markings: one that is refused moves nothing (demand 1); every one keeps a valid image valid, and the drives where they are.
-use Rattle.std.specs.Prelude.{◌≡◌, refl, false, ℕ, ◌<◌}
+use Rattle.std.specs.Prelude.{◌≡◌, refl, false, ℕ, ◌<◌, is_none}
 use Rattle.std.proofs.Common.{sym, inl, arith, ltb-false}
 use Rattle.std.proofs.Math.Path.{subst}
 use mathlib.Core.List.{List}
@@ -18,7 +18,7 @@ use Rattle.image.specs.Shelf.{Shelf, shelf_frame}
 use Rattle.image.specs.Keeps.{shelf_dropped, shelf_marked}
 use Rattle.sense.specs.declared.Answer.{Answer}
 use Rattle.sense.specs.declared.Answer.TheVariants.{Good}
-use Rattle.meaning.specs.Checks.{is_nothing, calls}
+use Rattle.meaning.specs.Checks.{calls}
 use Rattle.meaning.specs.Step.{answered, untouched, target, reset_answer, reset_image, mark_calls, mark_answer, mark_image}
 use Rattle.grants.specs.Passed.{found}
 
@@ -35,7 +35,7 @@ unfolding mark_answer mark_image
 mark_keeps m a state = first_both answered (untouched m) (Keeps m) (mark_calls m a state) Good _ (λ n w x k. refl) (λ p k. absurd (k refl))
 
 -- the target that passed call 2 is a drive
-pub target_in : (m : List ℕ) (a : Came) → is_nothing (target_of m (geometry_of m) a) ≡ false → target m a < (geometry_of m).d
+pub target_in : (m : List ℕ) (a : Came) → is_none (target_of m (geometry_of m) a) ≡ false → target m a < (geometry_of m).d
 target_in m a e = (drive_inside m (geometry_of m) a.target.0 (target m a) (found (target_of m (geometry_of m) a) e)).0
 
 module _ (m : List ℕ) (g : Geometry) (h : Shelf m g) (a : Came) where

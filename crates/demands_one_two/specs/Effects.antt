@@ -1,11 +1,10 @@
 -- What an act comes to, in one form: blocks written, and then a result that comes, one that goes, or neither. What is known of every act
 -- is known of this form.
-use Rattle.std.specs.Prelude.{◌≡◌, refl, ℕ, ◌+◌, ◌*◌, ◌≤◌, ◌<◌, length}
+use Rattle.std.specs.Prelude.{◌≡◌, refl, ℕ, ◌+◌, ◌*◌, ◌≤◌, ◌<◌, length, Some}
 use Rattle.std.proofs.Common.{sym, ap, subst, ◌∙◌, inr, arith}
 use mathlib.Core.List.{List, [], ◌∷◌, ◌++◌, map, append-nil}
 use Rattle.octets.specs.Put.{put}
 use Rattle.octets.specs.PutPut.{put_comm}
-use Rattle.folds.specs.declared.Found.TheVariants.{At}
 use Rattle.folds.specs.Each.{EachIs}
 use Rattle.geometry.specs.declared.Geometry.{Geometry}
 use Rattle.geometry.specs.Header.{slot_at, data_at}
@@ -47,8 +46,8 @@ pub record Covers (g : Geometry) (w : Over) : Type 0 where
 -- the slot that takes a result is the lowest empty one; the one that goes is the newest at its drive and block, and no block is written then
 abbrev pub Possible : List ℕ → Geometry → List Over → Change → Type 0
 Possible m g ws Stays = Unit {0}
-Possible m g ws (Comes i kind x bytes) = (empty_slot m g ≡ At i) × Sound g (result_in kind x bytes)
-Possible m g ws (Goes i x) = (newest_of m g x.drive x.block.0 ≡ At i) × (ws ≡ [])
+Possible m g ws (Comes i kind x bytes) = (empty_slot m g ≡ Some i) × Sound g (result_in kind x bytes)
+Possible m g ws (Goes i x) = (newest_of m g x.drive x.block.0 ≡ Some i) × (ws ≡ [])
 
 -- no drive is written twice
 abbrev pub Distinct : List Over → Type 0

@@ -1,5 +1,5 @@
 -- What a decision to go grants, each act needs no more: its effect is fine. This is the one law that goes by act.
-use Rattle.std.specs.Prelude.{◌≡◌, refl, Bool, true, false, cond, List, [], ◌∷◌, ℕ, ◌*◌, ◌≤◌, ◌<◌, eqb, length}
+use Rattle.std.specs.Prelude.{◌≡◌, refl, Bool, true, false, not, List, [], ℕ, ◌*◌, ◌≤◌, ◌<◌, length}
 use Rattle.std.proofs.Common.{sym, ap, ◌∙◌, mul-le-mul, arith, lit<}
 use Rattle.octets.specs.Part.{part, length_part}
 use Rattle.octets.specs.Xor.{◌⊻◌, length_xor_le}
@@ -24,17 +24,14 @@ module _ (m : List ℕ) (g : Geometry) (f : Framed m g) (s : List ℕ) (room : �
   covering : (x : Span) (ys : List ℕ) → Blocks m g x → length ys ≡ x.count * g.l → Covers g (over x ys)
   covering x ys b e = record { range = b.range; exact = e }
 
-  data_covers : (x : Span) (ndisc : ℕ) → Blocks m g x → Filled g x s → EachIs (Covers g) (data_over x ndisc s) × Distinct (data_over x ndisc s)
-  data_covers x ndisc b e = pick (eqb ndisc 0)
-    where
-      pick : (writes : Bool) → EachIs (Covers g) (cond writes (over x s ∷ []) []) × Distinct (cond writes (over x s ∷ []) [])
-      pick true = ((covering x s b e, tt), (tt, tt))
-      pick false = (tt, tt)
+  data_covers : (x : Span) (ndisc : Bool) → Blocks m g x → Filled g x s → EachIs (Covers g) (data_over x ndisc s) × Distinct (data_over x ndisc s)
+  data_covers x true b e = (tt, tt)
+  data_covers x false b e = ((covering x s b e, tt), (tt, tt))
 
-  length_passed : (x y : Span) (mirror : ℕ) → Blocks m g x → Blocks m g y → x.count ≡ y.count → Filled g x s → length (passed_on m g x y mirror s) ≡ y.count * g.l
+  length_passed : (x y : Span) (mirror : Bool) → Blocks m g x → Blocks m g y → x.count ≡ y.count → Filled g x s → length (passed_on m g x y mirror s) ≡ y.count * g.l
   length_passed x y mirror bx by e l =
       let q : length (result_of m g x mirror s) ≡ y.count * g.l = length_result m g f x bx mirror s l ∙ ap (λ (k : ℕ). k * g.l) e in
-      length_laid (eqb mirror 0) (blocks_of m g y) (result_of m g x mirror s) (length_blocks m g f y by ∙ sym q) ∙ q
+      length_laid (not mirror) (blocks_of m g y) (result_of m g x mirror s) (length_blocks m g f y by ∙ sym q) ∙ q
 
   -- ---- a result that comes
 
@@ -82,4 +79,4 @@ module _ (m : List ℕ) (g : Geometry) (f : Framed m g) (s : List ℕ) (room : �
   fine (Rebuild x j) (b, w) = made _ _ _ none (covering x _ b (length_gathered m g x j s f w), tt) (tt, tt) tt
   fine (Regenerate x j i) (b, w, most, v) =
       made _ _ _ none tt tt (v.takes, sound_in 2 x _ (omega arith) (omega arith) b most (length_own x _ b (length_gathered m g x j s f w)))
-  fine (XdWriteRead x disable) (b, e, r) = made _ _ _ (handing x (s ⊻ blocks_of m g x) (in_drive x b) (length_result m g f x b 0 s e) r) (data_covers x disable b e).0 (data_covers x disable b e).1 tt
+  fine (XdWriteRead x disable) (b, e, r) = made _ _ _ (handing x (s ⊻ blocks_of m g x) (in_drive x b) (length_result m g f x b false s e) r) (data_covers x disable b e).0 (data_covers x disable b e).1 tt

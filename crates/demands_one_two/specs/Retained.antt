@@ -1,8 +1,7 @@
 -- What each act does to the retained results by age; and XDREAD's answer is the newest at its drive and block.
-use Rattle.std.specs.Prelude.{◌≡◌, List, ◌∷◌, ℕ, ◌*◌, ◌<◌}
+use Rattle.std.specs.Prelude.{◌≡◌, List, ◌∷◌, ℕ, ◌*◌, ◌<◌, Some}
 use Rattle.std.proofs.Common.{sym, subst, ◌∙◌, le_refl}
 use Rattle.std.proofs.Math.Path.{ap}
-use Rattle.std.proofs.Math.Option.{some}
 use Rattle.octets.specs.Part.{part}
 use Rattle.geometry.specs.declared.Geometry.{Geometry}
 use Rattle.geometry.specs.Header.{data_at, slot_size}
@@ -66,7 +65,7 @@ module _ (m : List ℕ) (g : Geometry) (h : Shelf m g) where
 
   -- XDREAD hands out the newest result at its drive and block, whole
   pub newest_handed : (s : List ℕ) (room : ℕ) (x : Span) (i : ℕ) → Allowed m g s room (XdRead x i)
-      → (first_of (answers x.drive x.block.0) (results m g) ≡ some (result_at m g i)) × (hands m g s (XdRead x i) ≡ (result_at m g i).bytes)
+      → (first_of (answers x.drive x.block.0) (results m g) ≡ Some (result_at m g i)) × (hands m g s (XdRead x i) ≡ (result_at m g i).bytes)
   unfolding result_at
   newest_handed s room x i a =
       (newest_result m g h.slots_fine x.drive x.block.0 i a.0.answers, ap (λ (k : ℕ). part m (data_at g i) (k * g.l)) (sym a.0.same_len))

@@ -1,12 +1,11 @@
 -- "a REBUILD cut into adjoining ranges, each answered GOOD, equals the whole"
-use Rattle.std.specs.Prelude.{ℕ, ◌+◌, ◌*◌, ◌≤◌, ◌<◌, Bool, true, false, cond, ◌≡◌, refl, eqb, length, drop}
+use Rattle.std.specs.Prelude.{ℕ, ◌+◌, ◌*◌, ◌≤◌, ◌<◌, Bool, true, false, cond, ◌≡◌, refl, eqb, length, drop, Some}
 use Rattle.std.proofs.Common.{mul-le-mul, arith, ⊎_elim, sym, ap, ap₂, subst, ◌∙◌, length-take, length-drop}
 use mathlib.Core.List.{List, [], ◌∷◌, map, Permᴰ}
 use Rattle.std.proofs.lemmas.List.{length-map}
 use Rattle.octets.specs.Part.{part}
 use Rattle.octets.specs.Put.{put}
 use Rattle.octets.specs.Operands.{xor_all, length_xor_all_le}
-use Rattle.folds.specs.declared.Found.TheVariants.{At}
 use Rattle.folds.specs.Each.{EachIs, each_append, each_back, each_map, perm_each}
 use Rattle.geometry.specs.declared.Geometry.{Geometry}
 use Rattle.geometry.specs.Header.{place}
@@ -36,7 +35,7 @@ unfolding part
 part_within xs at n some e = omega (arith, length-take n (drop at xs), length-drop at xs)
 
 -- the REBUILD to drive u of the blocks from block b on, and images that some of its ranges have left of image m
-module _ (g : Geometry) (m : List ℕ) (u b n : ℕ) (es : List Source) (int : ℕ) (d : List ℕ) (a : Came) where
+module _ (g : Geometry) (m : List ℕ) (u b n : ℕ) (es : List Source) (int : Bool) (d : List ℕ) (a : Came) where
   -- what the whole writes, and where
   abbrev sum : List ℕ
   sum = xor_all (operands m g a n es int d)
@@ -79,7 +78,7 @@ module _ (g : Geometry) (m : List ℕ) (u b n : ℕ) (es : List Source) (int : �
     abbrev c : Came
     c = p.by.came
 
-    found : target_of y g c ≡ At u
+    found : target_of y g c ≡ Some u
     found = drive_ext y m g w.same.addresses c.target.0 ∙ k.cut.found
 
     did : Rebuilt y g w.shelf p.by u found (b + o) j k.cut.some_block (map (onward o) es) int (part d (o * g.l) (j * g.l))
@@ -152,7 +151,7 @@ module _ (g : Geometry) (m : List ℕ) (u b n : ℕ) (es : List Source) (int : �
   trail [] y rs is gs = ends
   trail (p ∷ ps) y (r, rs) (i, is) (good, gs) = then (record { cut = r; within = i; good = good; image = refl }) (trail ps (ours y p.by).image rs is gs)
 
-  module _ (h : Shelf m g) (some : 1 ≤ n) (long : length d ≡ cond (eqb int 0) 0 (n * g.l)) (ps qs : List Cut) (rs : EachIs (CutOf m g u b es int d) ps)
+  module _ (h : Shelf m g) (some : 1 ≤ n) (long : length d ≡ cond int (n * g.l) 0) (ps qs : List Cut) (rs : EachIs (CutOf m g u b es int d) ps)
       (order : Permᴰ qs ps) (adjoin : Adjoining 0 n (map (λ p. p.range) qs)) (gs : EachGood ours ps m) where
     start : Midway m
     start = record { shelf = h; same = record { addresses = λ v l. refl; others = λ v l ne. refl }; states = λ v l. refl; under = refl }
@@ -169,14 +168,14 @@ module _ (g : Geometry) (m : List ℕ) (u b n : ℕ) (es : List Source) (int : �
     sum_long : length sum ≤ n * g.l
     sum_long =
         length_xor_all_le (n * g.l) (operands m g a n es int d)
-        (each_append (λ (x : List ℕ). length x ≡ n * g.l) (map (named_blocks m g a n) es) (cond (eqb int 0) [] (d ∷ []))
+        (each_append (λ (x : List ℕ). length x ≡ n * g.l) (map (named_blocks m g a n) es) (cond int (d ∷ []) [])
         (each_map (named_blocks m g a n) (NamesOther m g a (blocks u b n)) (λ (x : List ℕ). length x ≡ n * g.l)
         (λ e f. range_long m g (home_of m g a e) e.block.0 n (shelf_frame m g h) (home_range m g a (blocks u b n) e f)) es reaches.each)
-        (pick (eqb int 0) long))
+        (pick int long))
       where
-        pick : (v : Bool) → length d ≡ cond v 0 (n * g.l) → EachIs (λ (x : List ℕ). length x ≡ n * g.l) (cond v [] (d ∷ []))
-        pick true e = tt
-        pick false e = (e, tt)
+        pick : (v : Bool) → length d ≡ cond v (n * g.l) 0 → EachIs (λ (x : List ℕ). length x ≡ n * g.l) (cond v (d ∷ []) [])
+        pick false e = tt
+        pick true e = (e, tt)
 
     left_is : left ours ps m ≡ put m at sum
     left_is =

@@ -1,7 +1,7 @@
 -- A shelf of four drives with four blocks each: the laws' conditions can be met there, and what the commands then come to.
 use Prim.Native.Nat.{ℕ, zero, suc, ◌<◌}
 use Rattle.std.proofs.Common.{arith, sym, ◌∙◌}
-use Rattle.std.specs.Prelude.{false, ◌≡◌, take, replicate}
+use Rattle.std.specs.Prelude.{false, ◌≡◌, take, replicate, Some}
 use Rattle.std.proofs.Math.Logic.{inl, inr}
 use Rattle.std.proofs.Math.Path.{refl, ap}
 use mathlib.Core.List.Permᴰ
@@ -13,7 +13,6 @@ use Rattle.octets.specs.Number.{num, to_be}
 use Rattle.octets.specs.Xor.{◌⊻◌}
 use Rattle.octets.specs.Octets.{small_octets}
 use Rattle.octets.specs.Operands.{xor_all}
-use Rattle.folds.specs.declared.Found.TheVariants.{At}
 use Rattle.folds.specs.Each.{EachIs}
 use Rattle.folds.specs.Every.{every}
 use Rattle.folds.specs.All.{all_below}
@@ -60,7 +59,7 @@ module _ (a b c d e f g h : ℕ) where
     record { header = refl; framed_fine = refl; table_fine = refl; slots_fine = refl },
   )
 
-  targets : (target_of (regenerated (eight a b c d e f g h)) shape (to 2) ≡ At 1) × (target_of (fetched (eight a b c d e f g h)) shape (to 1) ≡ At 0)
+  targets : (target_of (regenerated (eight a b c d e f g h)) shape (to 2) ≡ Some 1) × (target_of (fetched (eight a b c d e f g h)) shape (to 1) ≡ Some 0)
   unfolding drive_of least_below part num
   targets = (refl, refl)
 
@@ -83,7 +82,7 @@ module _ (a b c d e f g h : ℕ) where
       medium (suc (suc (suc (suc i)))) l = absurd (omega arith)
 
   -- a drive by its address: it is present, and not the target
-  ready : (x i : ℕ) → drive_of (fetched (eight a b c d e f g h)) shape x ≡ At i → failed (fetched (eight a b c d e f g h)) shape i ≡ false → (i ≡ 0 → ⊥) → (k : ℕ)
+  ready : (x i : ℕ) → drive_of (fetched (eight a b c d e f g h)) shape x ≡ Some i → failed (fetched (eight a b c d e f g h)) shape i ≡ false → (i ≡ 0 → ⊥) → (k : ℕ)
       → Ready (fetched (eight a b c d e f g h)) shape (to 1) 0 (source x k)
   ready x i there up other k v q = let same : i ≡ v = at_same there q in (ap (failed (fetched (eight a b c d e f g h)) shape) (sym same) ∙ up, λ z. other (same ∙ z))
 
@@ -91,7 +90,7 @@ module _ (a b c d e f g h : ℕ) where
   pub by_law : (step : Program) → Passes a b c d e f g h step → Joins step → step (fetched (eight a b c d e f g h)) one ≡ leaving (step (fetched (eight a b c d e f g h)) (rebuild (eight a b c d e f g h))).image one
   unfolding cdb_of op_of to_be part num entries_from source_of drive_of least_below
   by_law step p law =
-      law shape shelf (regenerated (eight a b c d e f g h)) (fetched (eight a b c d e f g h)) regenerate fetch (rebuild (eight a b c d e f g h)) 1 0 1 2 2 (source 3 0 ∷ []) others all 0 [] (eight a b c d e f g h) (to 1) 0 0xFFFFFFFF []
+      law shape shelf (regenerated (eight a b c d e f g h)) (fetched (eight a b c d e f g h)) regenerate fetch (rebuild (eight a b c d e f g h)) 1 0 1 2 2 (source 3 0 ∷ []) others all false [] (eight a b c d e f g h) (to 1) 0 0xFFFFFFFF []
       (record {
         shelf = shelf_is;
         found = refl;
@@ -149,7 +148,7 @@ two_orders = by_order ours three_good order_free
 
 -- ---- three ranges
 
-cuts_of : EachIs (CutOf shelf shape 0 0 (source 2 0 ∷ source 3 0 ∷ []) 0 []) ranges
+cuts_of : EachIs (CutOf shelf shape 0 0 (source 2 0 ∷ source 3 0 ∷ []) false []) ranges
 unfolding cdb_of op_of to_be part num entries_from source_of drive_of least_below
 cuts_of =
     record { found = refl; some_block = lit≤ tt; asks = record { code = refl; flag = refl; long = refl; listed = refl; own = refl; sources = refl; rest = refl } }
@@ -161,7 +160,7 @@ cuts_of =
 pub by_cuts : (step : Program) → EachGood step ranges shelf → CutFree step → step shelf whole ≡ leaving (left step ranges shelf) whole
 unfolding drive_of least_below part num
 by_cuts step good law =
-    law shape shelf 0 0 4 (source 2 0 ∷ source 3 0 ∷ []) 0 [] ranges (cut 0 1 1 ∷ cut 1 2 2 ∷ cut 3 1 0xFFFFFFFF ∷ []) (to 1) 0 0xFFFFFFFF []
+    law shape shelf 0 0 4 (source 2 0 ∷ source 3 0 ∷ []) false [] ranges (cut 0 1 1 ∷ cut 1 2 2 ∷ cut 3 1 0xFFFFFFFF ∷ []) (to 1) 0 0xFFFFFFFF []
     shelf_is (small_octets shelf refl) (lit≤ tt) refl
     (record { found = refl; byte = together_byte 0 (inl refl); how_long = inr (refl, refl); exact = inl refl; few = lit≤ tt })
     cuts_of (Permᴰ.trans (Permᴰ.cons refl (Permᴰ.swap refl refl)) (Permᴰ.swap refl refl)) (refl then refl then refl then refl) good

@@ -1,5 +1,5 @@
 -- The shelf of four drives again: drive 1, of four blocks, is rebuilt over two strings in ranges of two, as many as a slot holds.
-use Rattle.std.specs.Prelude.{ℕ, ◌+◌, ◌*◌, ◌<◌, ◌≡◌, refl, List, [], ◌∷◌, ◌++◌, get_or, replicate}
+use Rattle.std.specs.Prelude.{ℕ, ◌+◌, ◌*◌, ◌<◌, ◌≡◌, refl, true, false, List, [], ◌∷◌, ◌++◌, get_or, replicate, Some}
 use Rattle.std.proofs.Common.{sym, ap, ◌∙◌, lit≤}
 use mathlib.Core.List.Permᴰ
 use Rattle.octets.specs.Part.{part}
@@ -8,7 +8,6 @@ use Rattle.octets.specs.Number.{num, to_be, be}
 use Rattle.octets.specs.Xor.{◌⊻◌}
 use Rattle.octets.specs.Octets.{Octets, small_octets}
 use Rattle.octets.specs.Operands.{xor_all}
-use Rattle.folds.specs.declared.Found.TheVariants.{At}
 use Rattle.folds.specs.Every.{every}
 use Rattle.folds.specs.All.{all_below}
 use Rattle.folds.specs.Count.{count_below}
@@ -83,10 +82,10 @@ Answered m o ys =
     × IsGood ours p.fetched_on (fetch o)
     × ((ours p.fetched_on (fetch o)).room ≡ ys)
     × IsGood ours p.second_on (rebuild o ys)
-    × (target_of p.fetched_on shape (to 2) ≡ At 1)
-    × (target_of p.second_on shape (to 1) ≡ At 0)
+    × (target_of p.fetched_on shape (to 2) ≡ Some 1)
+    × (target_of p.second_on shape (to 1) ≡ Some 0)
     × Octets p.second_on
-    × (target_of m shape (to 2) ≡ At 1)
+    × (target_of m shape (to 2) ≡ Some 1)
 
 upper_answered : Answered shelf 2 upper
 unfolding cdb_of op_of to_be part put num source_of decide_of step_outcome step_image step_room valid_image slot_of slot_at place every all_below count_below least_below drive_of empty_slot better best_of newest_of bytes_of ten_of listed_of own_of resolved_of list_bytes own_entry drive_bad entry_bad first_bad sources_from gathered xor_all ◌⊻◌
@@ -102,17 +101,17 @@ lower_answered = (refl, refl, refl, refl, refl, refl, small_octets (strung half 
 -- ---- each is a range of the whole
 
 abbrev Of : Strung → Type 0
-Of = StrungOf ours shape 1 0 0 0 (source 3 0 ∷ []) (source 4 0 ∷ []) 0 []
+Of = StrungOf ours shape 1 0 0 0 (source 3 0 ∷ []) (source 4 0 ∷ []) false []
 
 module _ (m : List ℕ) (h : Shelf m shape) (o : ℕ) (ys : List ℕ) (k : Answered m o ys) where
   step_keeps : (m : List ℕ) (x : Sent) → Shelf m shape → Shelf (ours m x).image shape
   step_keeps m x h = step_shelf m x.came x.cdb x.bytes x.room shape h
 
-  strung_of : Asks Regenerate 4 (regenerate o) (0 + o) 2 (source 3 (0 + o) ∷ []) 0 (part [] (o * 4) 8) → be 4 (fetch o).cdb 2 ≡ 0 + o → op_of (get_or (fetch o).cdb 0 0) ≡ XdRead
-      → Asks Rebuild 4 (rebuild o ys) (0 + o) 2 (source 4 (0 + o) ∷ []) 1 ys → part ys 0 8 ≡ ys → Of (strung m o ys)
+  strung_of : Asks Regenerate 4 (regenerate o) (0 + o) 2 (source 3 (0 + o) ∷ []) false (part [] (o * 4) 8) → be 4 (fetch o).cdb 2 ≡ 0 + o → op_of (get_or (fetch o).cdb 0 0) ≡ XdRead
+      → Asks Rebuild 4 (rebuild o ys) (0 + o) 2 (source 4 (0 + o) ∷ []) true ys → part ys 0 8 ≡ ys → Of (strung m o ys)
   strung_of first_asks at code second_asks long =
       let p = strung m o ys in
-      let first : First ours m shape (regenerate o) 1 (0 + o) 2 (source 3 (0 + o) ∷ []) 0 (part [] (o * 4) 8) =
+      let first : First ours m shape (regenerate o) 1 (0 + o) 2 (source 3 (0 + o) ∷ []) false (part [] (o * 4) 8) =
       record { shelf = h; found = k.7; asks = first_asks; some_block = lit≤ tt; good = k.0 } in
       let fetched : Fetched ours p.fetched_on p.fetched_on shape (fetch o) 1 (0 + o) 2 ys =
       record {
@@ -135,7 +134,7 @@ module _ (m : List ℕ) (h : Shelf m shape) (o : ℕ) (ys : List ℕ) (k : Answe
               asks = second_asks;
               good = k.3;
             };
-        same = media_as_before shape m (regenerate o) (fetch o) 1 (0 + o) 2 (source 3 (0 + o) ∷ []) 0 (part [] (o * 4) 8) ys first fetched;
+        same = media_as_before shape m (regenerate o) (fetch o) 1 (0 + o) 2 (source 3 (0 + o) ∷ []) false (part [] (o * 4) 8) ys first fetched;
       }
 
   step_after : Shelf (after m o ys) shape
@@ -154,14 +153,14 @@ lower_of = strung_of half half_is 0 lower lower_answered (record { code = refl; 
 
 -- ---- one REBUILD of all four blocks over all three drives
 
-whole_good : IsGood ours shelf whole × (target_of shelf shape (to 1) ≡ At 0)
+whole_good : IsGood ours shelf whole × (target_of shelf shape (to 1) ≡ Some 0)
 unfolding cdb_of op_of to_be part put num source_of decide_of step_outcome step_image step_room valid_image slot_of slot_at place every all_below count_below least_below drive_of empty_slot better best_of newest_of bytes_of ten_of listed_of own_of resolved_of list_bytes own_entry drive_bad entry_bad first_bad sources_from gathered xor_all ◌⊻◌
 whole_good = (refl, refl)
 
 pub by_ranges : (v : ℕ) → v < 4 → medium_of (after half 0 lower) shape v ≡ medium_of (ours shelf whole).image shape v
 unfolding cdb_of op_of to_be part num entries_from source_of
 by_ranges =
-    joins_by_ranges shape shelf shelf (after half 0 lower) 1 0 0 0 4 (source 3 0 ∷ []) (source 4 0 ∷ []) (source 4 0 ∷ source 2 0 ∷ source 3 0 ∷ []) 0 []
+    joins_by_ranges shape shelf shelf (after half 0 lower) 1 0 0 0 4 (source 3 0 ∷ []) (source 4 0 ∷ []) (source 4 0 ∷ source 2 0 ∷ source 3 0 ∷ []) false []
     (strung shelf 2 upper ∷ strung half 0 lower ∷ []) (strung half 0 lower ∷ strung shelf 2 upper ∷ []) whole
     (same_itself shelf shape, upper_of, (same_itself half shape, lower_of, same_itself (after half 0 lower) shape))
     (Permᴰ.swap refl refl) (refl, (refl, refl)) (same_itself shelf shape) shelf_is whole_good.1 (lit≤ tt)

@@ -1,5 +1,5 @@
 -- What two strings leave besides the target's blocks: every medium as the one REBUILD leaves it, and no result more than before.
-use Rattle.std.specs.Prelude.{ℕ, ◌*◌, ◌≤◌, ◌<◌, cond, eqb, length, ◌≡◌}
+use Rattle.std.specs.Prelude.{ℕ, ◌*◌, ◌≤◌, ◌<◌, Bool, true, cond, length, ◌≡◌, Option, Some}
 use Rattle.std.proofs.Common.{arith, ⊎_elim, sym, ap, ap₂, ◌∙◌}
 use mathlib.Core.List.{List, [], ◌∷◌, ◌++◌, Permᴰ}
 use Rattle.octets.specs.Part.{part}
@@ -9,8 +9,6 @@ use Rattle.octets.specs.Number.{be}
 use Rattle.octets.specs.Octets.{Octets}
 use Rattle.octets.specs.Xor.{◌⊻◌}
 use Rattle.octets.specs.Operands.{xor_all}
-use Rattle.folds.specs.declared.Found.{Found}
-use Rattle.folds.specs.declared.Found.TheVariants.{At}
 use Rattle.folds.specs.Least.{index}
 use Rattle.folds.specs.Cases.{same}
 use Rattle.geometry.specs.declared.Geometry.{Geometry}
@@ -39,24 +37,24 @@ use Rattle.divided.specs.Media.{other_medium, each_named, medium_put, then_same}
 use Rattle.divided.proofs.Strings.{first_done, fetched, second_done, sum_is}
 
 -- a REBUILD that was answered GOOD leaves header, drive table and slots as they were
-module _ (m : List ℕ) (g : Geometry) (h : Shelf m g) (x : Sent) (u : ℕ) (found : target_of m g x.came ≡ At u) (b n : ℕ) (some : 1 ≤ n) (es : List Source) (int : ℕ) (d : List ℕ)
+module _ (m : List ℕ) (g : Geometry) (h : Shelf m g) (x : Sent) (u : ℕ) (found : target_of m g x.came ≡ Some u) (b n : ℕ) (some : 1 ≤ n) (es : List Source) (int : Bool) (d : List ℕ)
     (asks : Asks Rebuild g.b x b n es int d) (good : IsGood ours m x) where
   pub before_media : part (ours m x).image 0 g.media ≡ part m 0 g.media
   before_media =
       ap (λ (s : List ℕ). part s 0 g.media) (rebuilt m g h x u found b n some es int d asks good).image
       ∙ part_put_below m (place g u b) _ 0 g.media (omega (arith, place_after_media g u b))
 
-module _ (g : Geometry) (m m' m'' : List ℕ) (x y z : Sent) (t u b c n : ℕ) (es fs : List Source) (int : ℕ) (d ys : List ℕ)
+module _ (g : Geometry) (m m' m'' : List ℕ) (x y z : Sent) (t u b c n : ℕ) (es fs : List Source) (int : Bool) (d ys : List ℕ)
     (p : First ours m g x t b n es int d) (q : Fetched ours (ours m x).image m' g y t b n ys) (v : Second ours m'' g z u c n fs ys) (w : SameMedia m m'' g) where
   abbrev bytes : List ℕ
-  bytes = xor_all (operands m'' g z.came n fs 1 ys)
+  bytes = xor_all (operands m'' g z.came n fs true ys)
 
-  did : Rebuilt m'' g v.shelf z u v.found c n p.some_block fs 1 ys
+  did : Rebuilt m'' g v.shelf z u v.found c n p.some_block fs true ys
   did = second_done g m m' m'' x y z t u b c n es fs int d ys p q v w
 
   -- ---- the one REBUILD o on any image with the same media
 
-  module _ (k : List ℕ) (same_as : SameMedia k m'' g) (h : Shelf k g) (o : Sent) (found : target_of k g o.came ≡ At u) (zs : List Source) (all : Permᴰ zs (together m'' g t b es fs))
+  module _ (k : List ℕ) (same_as : SameMedia k m'' g) (h : Shelf k g) (o : Sent) (found : target_of k g o.came ≡ Some u) (zs : List Source) (all : Permᴰ zs (together m'' g t b es fs))
       (asks : Asks Rebuild g.b o c n zs int d) (good : IsGood ours k o) where
     once : Rebuilt k g h o u found c n p.some_block zs int d
     once = rebuilt k g h o u found c n p.some_block zs int d asks good
@@ -65,7 +63,7 @@ module _ (g : Geometry) (m m' m'' : List ℕ) (x y z : Sent) (t u b c n : ℕ) (
     wrote =
         once.image
         ∙ ap (put k (place g u c))
-        (ap (λ (xs : List (List ℕ)). xor_all (xs ++ cond (eqb int 0) [] (d ∷ []))) (each_named k m'' g same_as o.came o.came (blocks u c n) zs once.each)
+        (ap (λ (xs : List (List ℕ)). xor_all (xs ++ cond int (d ∷ []) [])) (each_named k m'' g same_as o.came o.came (blocks u c n) zs once.each)
         ∙ sum_is g m m' m'' x y z t u b c n es fs int d ys p q v w o.came zs all)
 
     target_alike : medium_of (ours k o).image g u ≡ medium_of (ours m'' z).image g u
@@ -84,7 +82,7 @@ module _ (g : Geometry) (m m' m'' : List ℕ) (x y z : Sent) (t u b c n : ℕ) (
 
 -- ---- one after the other, with nothing between
 
-module _ (g : Geometry) (m : List ℕ) (x y : Sent) (t b n : ℕ) (es : List Source) (int : ℕ) (d ys : List ℕ) where
+module _ (g : Geometry) (m : List ℕ) (x y : Sent) (t b n : ℕ) (es : List Source) (int : Bool) (d ys : List ℕ) where
   -- what REGENERATE leaves, and then XDREAD
   abbrev pub kept : List ℕ
   kept = (ours m x).image
@@ -114,7 +112,7 @@ module _ (g : Geometry) (m : List ℕ) (x y : Sent) (t b n : ℕ) (es : List Sou
         let i = newest_new m g f p.shelf.slots_fine k did_first.free its did_first.sound in
         xdread_image kept g q.shelf y t q.found q.code q.good
         ∙ ap₂ (λ (s : List ℕ) (j : ℕ). released s g (index (newest_of s g t j))) did_first.image q.block
-        ∙ ap (λ (o : Found). released (with_result m g its) g (index o)) i
+        ∙ ap (λ (o : Option ℕ). released (with_result m g its) g (index o)) i
         ∙ passing m g f p.shelf.slots_fine k did_first.free its did_first.sound bytes
         ∙ ap (put m (data_at g k)) (sym (fetched g m kept x y t b n es int d ys p q))
 
@@ -127,8 +125,8 @@ module _ (g : Geometry) (m : List ℕ) (x y : Sent) (t b n : ℕ) (es : List Sou
 
     -- after the second string's REBUILD too, and so are the states
     module _ (z : Sent) (u c : ℕ) (fs : List Source) (v : Second ours read g z u c n fs ys) where
-      did_second : Rebuilt read g v.shelf z u v.found c n p.some_block fs 1 ys
-      did_second = rebuilt read g v.shelf z u v.found c n p.some_block fs 1 ys v.asks v.good
+      did_second : Rebuilt read g v.shelf z u v.found c n p.some_block fs true ys
+      did_second = rebuilt read g v.shelf z u v.found c n p.some_block fs true ys v.asks v.good
 
       pub results_as_before : results (ours read z).image g ≡ results m g
       results_as_before = did_second.after.retained ∙ results_read
@@ -137,11 +135,11 @@ module _ (g : Geometry) (m : List ℕ) (x y : Sent) (t b n : ℕ) (es : List Sou
       states_as_before i l = did_second.after.state_is i l ∙ did_fetch.state_is i l ∙ did_first.after.state_is i l
 
       -- the one REBUILD o on the first image leaves the same bytes, but for those in that slot
-      pub but_for_a_slot : Octets m → (o : Sent) → target_of m g o.came ≡ At u → (zs : List Source) → Permᴰ zs (together read g t b es fs) → Asks Rebuild g.b o c n zs int d → IsGood ours m o
+      pub but_for_a_slot : Octets m → (o : Sent) → target_of m g o.came ≡ Some u → (zs : List Source) → Permᴰ zs (together read g t b es fs) → Asks Rebuild g.b o c n zs int d → IsGood ours m o
           → (ours read z).image ≡ put (ours m o).image (data_at g (index (empty_slot m g))) ys
       but_for_a_slot bytes o found zs all asks good =
           let i = index (empty_slot m g) in
-          let sum = xor_all (operands read g z.came n fs 1 ys) in
+          let sum = xor_all (operands read g z.came n fs true ys) in
           let f = shelf_frame m g p.shelf in
           let l = (empty_inside m g i did_first.free).0 in
           let long : length ys ≡ n * g.l = ap length (fetched g m kept x y t b n es int d ys p q) ∙ did_first.sound.exact in

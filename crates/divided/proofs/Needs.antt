@@ -1,5 +1,5 @@
 -- What the one REBUILD needs on the second image, besides the three GOOD answers: it is GOOD if and only if it has that.
-use Rattle.std.specs.Prelude.{ℕ, ◌+◌, ◌≤◌, ◌<◌, ◌≡◌, refl}
+use Rattle.std.specs.Prelude.{ℕ, ◌+◌, ◌≤◌, ◌<◌, Bool, ◌≡◌, refl}
 use Rattle.std.proofs.Common.{arith, sym, ap, ◌∙◌}
 use mathlib.Core.List.Permᴰ
 use mathlib.Core.List.{List, ◌∷◌, Permᴰ}
@@ -22,7 +22,7 @@ use Rattle.divided.specs.Carried.{rebuilt}
 use Rattle.divided.specs.Said.{rebuild_asks}
 use Rattle.divided.proofs.Strings.{first_done, second_done, in_one}
 
-module _ (g : Geometry) (m m' m'' : List ℕ) (x y z : Sent) (t u b c n : ℕ) (es fs zs : List Source) (int : ℕ) (d ys : List ℕ) (a : Came) (flags count : ℕ) (r : List ℕ)
+module _ (g : Geometry) (m m' m'' : List ℕ) (x y z : Sent) (t u b c n : ℕ) (es fs zs : List Source) (int : Bool) (d ys : List ℕ) (a : Came) (flags count : ℕ) (r : List ℕ)
     (p : First ours m g x t b n es int d) (q : Fetched ours (ours m x).image m' g y t b n ys) (v : Second ours m'' g z u c n fs ys) (w : SameMedia m m'' g)
     (all : Permᴰ zs (together m'' g t b es fs)) (said : WellSaid m'' g a u flags int count c n zs) where
   abbrev one : Sent

@@ -2,7 +2,7 @@
 use Prim.Native.Nat.{ℕ, zero, suc, ◌+◌, ◌*◌, ◌≤◌, ◌<◌}
 use Rattle.std.proofs.Common.{arith, true≢false, ◌∙◌, lit≤}
 use Rattle.std.proofs.Math.Bool.{Bool, true, false, cond}
-use Rattle.std.specs.Prelude.{not, ◌⊎◌, ◌≡◌, ltb, eqb, length, get_or, take}
+use Rattle.std.specs.Prelude.{not, ◌⊎◌, ◌≡◌, ltb, eqb, length, get_or, take, Option, Some, None, is_none, Ok, Err, is_err}
 use Rattle.std.proofs.Math.Logic.{inl, inr, ⊎_elim}
 use Rattle.std.proofs.Math.Path.{refl, sym, ap, ap₂}
 use mathlib.Core.List.Permᴰ
@@ -12,8 +12,6 @@ use Rattle.octets.specs.Number.{front_be}
 use Rattle.octets.specs.Put.{put}
 use Rattle.octets.specs.Xor.{◌⊻◌}
 use Rattle.octets.specs.Operands.{xor_all, xor_all_perm}
-use Rattle.folds.specs.declared.Found.{Found}
-use Rattle.folds.specs.declared.Found.TheVariants.{At, Nothing}
 use Rattle.folds.specs.Least.{least_below, index}
 use Rattle.folds.proofs.Least.{least_inside, least_nothing}
 use Rattle.folds.specs.Cases.{same}
@@ -35,14 +33,12 @@ use Rattle.command.specs.declared.Command.{Command}
 use Rattle.command.specs.Command.{op_of, source_of, command_of, own_of}
 use Rattle.meaning.specs.declared.Summing.{Summing}
 use Rattle.meaning.specs.declared.Act.TheVariants.{Rebuild as ToRebuild, Regenerate as ToRegenerate}
-use Rattle.meaning.specs.declared.Fault.{Fault}
-use Rattle.meaning.specs.declared.Fault.TheVariants.{Clear, Absent, Failed, Beyond}
+use Rattle.meaning.specs.declared.Fault.TheVariants.{Absent, Failed, Beyond}
 use Rattle.meaning.specs.declared.Seen.{Seen}
 use Rattle.meaning.specs.declared.Seen.TheVariants.{Dash, Cdb, List as InList}
-use Rattle.meaning.specs.declared.Decision.{Decision}
-use Rattle.meaning.specs.declared.Decision.TheVariants.{Stop, Go}
-use Rattle.meaning.specs.Sources.{is_at, own_entry, drive_bad, entry_bad, or_next, first_bad}
-use Rattle.meaning.specs.Checks.{Check, is_nothing, is_fault, fault_answer, calls, cdb_calls, known, fields, sends, idle, lists, list_rules, resolved, ranges, in_range, busy, nested, source_rules, rooms, span_of, sum_of, checks, carried_out, decide_of}
+use Rattle.meaning.specs.Decision.{Decision, stop, go}
+use Rattle.meaning.specs.Sources.{Vetted, is_at, own_entry, drive_bad, entry_bad, or_next, first_bad}
+use Rattle.meaning.specs.Checks.{Check, fault_answer, calls, cdb_calls, known, fields, sends, idle, lists, list_rules, resolved, ranges, in_range, busy, nested, source_rules, rooms, span_of, sum_of, checks, carried_out, decide_of}
 use Rattle.meaning.specs.Acts.{over, Stays, Comes, effect, stores_in, blocks_of, named_blocks, gathered}
 use Rattle.meaning.specs.Step.{outcome_after, image_after, room_after, step_outcome, step_image, step_room}
 use Rattle.callers.specs.Goes.{◌then◌}
@@ -67,14 +63,14 @@ Pairs (x ∷ xs) (y ∷ ys) = Alike x y × Pairs xs ys
 
 -- then a GOOD decision by the first is one by the second
 module _ (m s : List ℕ) where
-  pairs_decide : (xs ys : List Check) (d e : Decision) → Pairs xs ys → d ≡ e → (outcome_after (first Stop xs d) m s).answer ≡ Good → first Stop xs d ≡ first Stop ys e
+  pairs_decide : (xs ys : List Check) (d e : Decision) → Pairs xs ys → d ≡ e → (outcome_after (first stop xs d) m s).answer ≡ Good → first stop xs d ≡ first stop ys e
   unfolding Pairs
   pairs_decide [] [] d e h q g = q
   pairs_decide [] (y ∷ ys) d e h q g = elim h [ ]
   pairs_decide (rule n w false a ∷ xs) [] d e h q g = elim h [ ]
   pairs_decide (rule n w true a ∷ xs) [] d e h q g = elim h [ ]
-  pairs_decide (rule n w true a ∷ xs) (y ∷ ys) d e (inl p, h) q g = ap (λ (z : Check). first Stop (z ∷ ys) e) p
-  pairs_decide (rule n w false a ∷ xs) (y ∷ ys) d e (inl p, h) q g = pairs_decide xs ys d e h q g ∙ ap (λ (z : Check). first Stop (z ∷ ys) e) p
+  pairs_decide (rule n w true a ∷ xs) (y ∷ ys) d e (inl p, h) q g = ap (λ (z : Check). first stop (z ∷ ys) e) p
+  pairs_decide (rule n w false a ∷ xs) (y ∷ ys) d e (inl p, h) q g = pairs_decide xs ys d e h q g ∙ ap (λ (z : Check). first stop (z ∷ ys) e) p
   pairs_decide (rule n w true a ∷ xs) (rule n' w' b' a' ∷ ys) d e (inr (p, never), h) q g = absurd (never refl g)
   pairs_decide (rule n w false a ∷ xs) (rule n' w' b' a' ∷ ys) d e (inr (p, never), h) q g = rw (← p) (pairs_decide xs ys d e h q g)
 
@@ -115,40 +111,42 @@ module _ (p : Source → Bool) (s : List ℕ) where
 
 module _ (m : List ℕ) (g : Geometry) (a : Came) where
   -- the target is among the entries
-  own_some : (s : List ℕ) (n t : ℕ) → not (is_nothing (own_entry m g a s n t)) ≡ some (λ e. is_at t (source_drive m g a e.address.0)) (entries_from s 0 n)
+  own_some : (s : List ℕ) (n t : ℕ) → not (is_none (own_entry m g a s n t)) ≡ some (λ e. is_at t (source_drive m g a e.address.0)) (entries_from s 0 n)
   unfolding own_entry
   own_some s n t = pick (least_below n p) refl
     where
       p : ℕ → Bool
       p i = is_at t (source_drive m g a (source_of s i).address.0)
 
-      pick : (f : Found) → least_below n p ≡ f → not (is_nothing f) ≡ some (λ e. is_at t (source_drive m g a e.address.0)) (entries_from s 0 n)
-      pick (At i) e = let w = least_inside p n i e in sym (some_there _ s i 0 n (omega arith) (omega (arith, w.0)) w.1)
-      pick Nothing e = sym (some_none _ s 0 n (λ j l. least_nothing p n e j (omega arith)))
+      pick : (f : Option ℕ) → least_below n p ≡ f → not (is_none f) ≡ some (λ e. is_at t (source_drive m g a e.address.0)) (entries_from s 0 n)
+      pick (Some i) e = let w = least_inside p n i e in sym (some_there _ s i 0 n (omega arith) (omega (arith, w.0)) w.1)
+      pick None e = sym (some_none _ s 0 n (λ j l. least_nothing p n e j (omega arith)))
 
   module _ (count : ℕ) where
     abbrev bad : Source → Bool
-    bad e = is_fault (drive_bad m g count 0 e.block.0 (source_drive m g a e.address.0))
+    bad e = is_err (drive_bad m g count 0 e.block.0 (source_drive m g a e.address.0))
+
+    -- entry i, which names drive d: it is failed, or the blocks end beyond its last
+    abbrev judged : ℕ → ℕ → Bool → Bool → Vetted
+    judged i d down beyond = cond down (Err (Failed i d)) (cond beyond (Err (Beyond i)) (Ok tt))
 
     -- whatever its place in the list
-    bad_anywhere : (i b : ℕ) (f : Found) → is_fault (drive_bad m g count i b f) ≡ is_fault (drive_bad m g count 0 b f)
+    bad_anywhere : (i b : ℕ) (f : Option ℕ) → is_err (drive_bad m g count i b f) ≡ is_err (drive_bad m g count 0 b f)
     unfolding drive_bad
-    bad_anywhere i b Nothing = refl
-    bad_anywhere i b (At d) = pick (failed m g d) (ltb g.b (b + count))
+    bad_anywhere i b None = refl
+    bad_anywhere i b (Some d) = pick (failed m g d) (ltb g.b (b + count))
       where
-        pick : (u v : Bool) → is_fault (cond u (Failed i d) (cond v (Beyond i) Clear)) ≡ is_fault (cond u (Failed 0 d) (cond v (Beyond 0) Clear))
+        pick : (u v : Bool) → is_err (judged i d u v) ≡ is_err (judged 0 d u v)
         pick true v = refl
         pick false true = refl
         pick false false = refl
 
-    fault_next : (x y : Fault) → is_fault (or_next x y) ≡ cond (is_fault x) true (is_fault y)
-    fault_next Clear y = refl
-    fault_next (Absent i) y = refl
-    fault_next (Failed i d) y = refl
-    fault_next (Beyond i) y = refl
+    fault_next : (x y : Vetted) → is_err (or_next x y) ≡ cond (is_err x) true (is_err y)
+    fault_next (Ok u) y = refl
+    fault_next (Err x) y = refl
 
     -- an entry is bad
-    fault_some : (s : List ℕ) (i left : ℕ) → is_fault (first_bad m g a s count i left) ≡ some bad (entries_from s i left)
+    fault_some : (s : List ℕ) (i left : ℕ) → is_err (first_bad m g a s count i left) ≡ some bad (entries_from s i left)
     unfolding first_bad entries_from entry_bad
     fault_some s i zero = refl
     fault_some s i (suc left) =
@@ -188,7 +186,7 @@ module _ (m : List ℕ) (a : Came) (c s s' : List ℕ) (w : Reordered s s') wher
     unfolding own_of
     same_place = let e = front_be s s' _ w.head 4 4 (lit≤ tt) in rw e
 
-    own_alike : (x y : Seen) → Alike (rule 7 x (not (is_nothing (own_entry m g k.came s (get_or s 0 0) t))) BadList) (rule 7 y (not (is_nothing (own_entry m g k.came s' (get_or s' 0 0) t))) BadList)
+    own_alike : (x y : Seen) → Alike (rule 7 x (not (is_none (own_entry m g k.came s (get_or s 0 0) t))) BadList) (rule 7 y (not (is_none (own_entry m g k.came s' (get_or s' 0 0) t))) BadList)
     own_alike x y =
         inr (
           own_some m g k.came s (get_or s 0 0) t ∙ some_perm _ w.entries ∙ sym (own_some m g k.came s' (get_or s' 0 0) t),
@@ -212,13 +210,13 @@ module _ (m : List ℕ) (a : Came) (c s s' : List ℕ) (w : Reordered s s') wher
     range_pairs = by (λ (j : Command). rule 8 (InList 4) (ltb g.b (j.block.0 + j.count)) BadRange) same_place then tt
 
     -- a fault is never GOOD
-    fault_never : (f : Fault) → is_fault f ≡ true → fault_answer f ≡ Good → ⊥
-    fault_never Clear q e = true≢false (sym q)
-    fault_never (Absent i) q e = let z : ◌≡◌ {A = ℕ} 0 1 = cc in omega arith
-    fault_never (Failed i d) q e = let z : ◌≡◌ {A = ℕ} 0 1 = cc in omega arith
-    fault_never (Beyond i) q e = let z : ◌≡◌ {A = ℕ} 0 1 = cc in omega arith
+    fault_never : (f : Vetted) → is_err f ≡ true → fault_answer f ≡ Good → ⊥
+    fault_never (Ok u) q e = true≢false (sym q)
+    fault_never (Err (Absent i)) q e = let z : ◌≡◌ {A = ℕ} 0 1 = cc in omega arith
+    fault_never (Err (Failed i d)) q e = let z : ◌≡◌ {A = ℕ} 0 1 = cc in omega arith
+    fault_never (Err (Beyond i)) q e = let z : ◌≡◌ {A = ℕ} 0 1 = cc in omega arith
 
-    abbrev fault : List ℕ → Fault
+    abbrev fault : List ℕ → Vetted
     fault s = first_bad m g k.came s (resolved g k s).count 0 (get_or s 0 0)
 
     nested_pairs : Pairs (source_rules (fault s)) (source_rules (fault s'))
@@ -258,7 +256,7 @@ module _ (m : List ℕ) (a : Came) (c s s' : List ℕ) (w : Reordered s s') wher
   unfolding gathered part
   gathered_same n j =
       let named = named_blocks m g j.came n in
-      let after : List ℕ → List (List ℕ) = (λ d. cond (eqb j.int 0) [] (take (n * g.l) d ∷ [])) in
+      let after : List ℕ → List (List ℕ) = (λ d. cond j.int (take (n * g.l) d ∷ []) []) in
       ap (λ (xs : List (List ℕ)). xor_all (xs ++ after (behind s))) (named_entries m g j.came s n 0 (get_or s 0 0))
       ∙ xor_all_perm (Permᴰ.append_right (after (behind s)) (Permᴰ.map named w.entries))
       ∙ ap₂ (λ (xs : List (List ℕ)) (d : List ℕ). xor_all (xs ++ after d)) (sym (named_entries m g j.came s' n 0 (get_or s' 0 0))) w.rest
@@ -269,7 +267,7 @@ module _ (m : List ℕ) (a : Came) (c s s' : List ℕ) (w : Reordered s s') wher
     made s d = reply (outcome_after d m s) (image_after d m s) (room_after d m s r)
 
     abbrev by_checks : Op → List ℕ → Decision
-    by_checks o s = first Stop (checks o m a c s (length r)) (carried_out o m a c s)
+    by_checks o s = first stop (checks o m a c s (length r)) (carried_out o m a c s)
 
     by_decision : (o : Op) → op_of (get_or c 0 0) ≡ o → Pairs (checks o m a c s (length r)) (checks o m a c s' (length r))
         → carried_out o m a c s ≡ carried_out o m a c s' → made s (carried_out o m a c s') ≡ made s' (carried_out o m a c s')
@@ -278,14 +276,14 @@ module _ (m : List ℕ) (a : Came) (c s s' : List ℕ) (w : Reordered s s') wher
     by_decision o e p act same good =
         ap (λ (z : Op). made s (by_checks z s)) e
         ∙ ap (made s) (pairs_decide m s _ _ _ _ p act (ap (λ (z : Op). (outcome_after (by_checks z s) m s).answer) (sym e) ∙ good))
-        ∙ first_cases Stop (λ (d : Decision). made s d ≡ made s' d) (checks o m a c s' (length r)) (carried_out o m a c s') (λ n x z. refl) (λ q. same)
+        ∙ first_cases stop (λ (d : Decision). made s d ≡ made s' d) (checks o m a c s' (length r)) (carried_out o m a c s') (λ n x z. refl) (λ q. same)
         ∙ ap (λ (z : Op). made s' (by_checks z s')) (sym e)
 
     of_rebuild : op_of (get_or c 0 0) ≡ Rebuild → (step_outcome m a c s r).answer ≡ Good → ours m (sent a c s r) ≡ ours m (sent a c s' r)
     of_rebuild e =
         let k = command_of Rebuild a c in
         let x = span_of t (resolved g k s') in
-        by_decision Rebuild e (rebuild_pairs (length r)) (ap (λ (j : Command). Go (ToRebuild (span_of t j) (sum_of k)) Good) (same_place k))
+        by_decision Rebuild e (rebuild_pairs (length r)) (ap (λ (j : Command). go (ToRebuild (span_of t j) (sum_of k)) Good) (same_place k))
         (ap (λ (ys : List ℕ). reply (outcome_of Good 0) (stored m (stores_in m g (effect [] (over x ys ∷ []) Stays))) (put r 0 [])) (gathered_same x.count (sum_of k)))
 
     of_regenerate : op_of (get_or c 0 0) ≡ Regenerate → (step_outcome m a c s r).answer ≡ Good → ours m (sent a c s r) ≡ ours m (sent a c s' r)
@@ -293,7 +291,7 @@ module _ (m : List ℕ) (a : Came) (c s s' : List ℕ) (w : Reordered s s') wher
         let k = command_of Regenerate a c in
         let x = span_of t (resolved g k s') in
         let i = index (empty_slot m g) in
-        by_decision Regenerate e (regenerate_pairs (length r)) (ap (λ (j : Command). Go (ToRegenerate (span_of t j) (sum_of k) i) Good) (same_place k))
+        by_decision Regenerate e (regenerate_pairs (length r)) (ap (λ (j : Command). go (ToRegenerate (span_of t j) (sum_of k) i) Good) (same_place k))
         (ap (λ (ys : List ℕ). reply (outcome_of Good 0) (stored m (stores_in m g (effect [] [] (Comes i 2 x (blocks_of m g x ⊻ ys))))) (put r 0 [])) (gathered_same x.count (sum_of k)))
 
 -- ---- the law

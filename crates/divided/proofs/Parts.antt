@@ -1,13 +1,11 @@
 -- What a range's operands come to is a part of what the whole's come to.
-use Rattle.std.specs.Prelude.{ℕ, ◌+◌, ◌*◌, ◌≤◌, Bool, ◌≡◌, eqb}
+use Rattle.std.specs.Prelude.{ℕ, ◌+◌, ◌*◌, ◌≤◌, Bool, ◌≡◌, Option, Some}
 use Rattle.std.proofs.Common.{arith, sym, ◌∙◌}
 use Rattle.std.proofs.Math.Bool.{true, false, cond}
 use Rattle.std.proofs.Math.Path.{refl, ap, ap₂}
 use mathlib.Core.List.{List, [], ◌∷◌, ◌++◌, map, map-append}
 use Rattle.octets.specs.Part.{part}
 use Rattle.octets.specs.Operands.{xor_all, parts_of, part_xor_all}
-use Rattle.folds.specs.declared.Found.{Found}
-use Rattle.folds.specs.declared.Found.TheVariants.{At}
 use Rattle.folds.specs.Each.{EachIs}
 use Rattle.folds.specs.Least.{index}
 use Rattle.geometry.specs.declared.Geometry.{Geometry}
@@ -43,25 +41,25 @@ module _ (m y : List ℕ) (g : Geometry) (u b z : ℕ) (w : SameButOne y m g u) 
       let v = f.drive in
       let d = e.block.0 in
       let r : Range g v (d + o) k = record { drive_in = f.range.drive_in; range_in = omega (arith, f.range.range_in) } in
-      let there : source_drive y g c e.address.0 ≡ At v = drive_ext y m g w.addresses e.address.0 ∙ f.found in
-      ap (λ (x : Found). cut (blocks_at m g (index x) d n)) f.found
+      let there : source_drive y g c e.address.0 ≡ Some v = drive_ext y m g w.addresses e.address.0 ∙ f.found in
+      ap (λ (x : Option ℕ). cut (blocks_at m g (index x) d n)) f.found
       ∙ part_blocks m g v d o k n within
       ∙ in_medium m g v (d + o) k r
       ∙ ap (λ (x : List ℕ). part x ((d + o) * g.l) (k * g.l)) (sym (w.others v r.drive_in f.other))
       ∙ sym (in_medium y g v (d + o) k r)
-      ∙ ap (λ (x : Found). blocks_at y g (index x) (d + o) k) (sym there)
+      ∙ ap (λ (x : Option ℕ). blocks_at y g (index x) (d + o) k) (sym there)
 
   each_part : (es : List Source) → EachIs (NamesOther m g a (blocks u b z)) es → map cut (map (named_blocks m g a n) es) ≡ map (named_blocks y g c k) (map (onward o) es)
   each_part [] h = refl
   each_part (e ∷ es) h = ap₂ (λ (x : List ℕ) (xs : List (List ℕ)). x ∷ xs) (named_part e h.0) (each_part es h.1)
 
-  pub sum_part : (es : List Source) (int : ℕ) (d : List ℕ) → EachIs (NamesOther m g a (blocks u b z)) es
+  pub sum_part : (es : List Source) (int : Bool) (d : List ℕ) → EachIs (NamesOther m g a (blocks u b z)) es
       → cut (xor_all (operands m g a n es int d)) ≡ xor_all (operands y g c k (map (onward o) es) int (cut d))
   unfolding parts_of
   sum_part es int d h =
       part_xor_all (operands m g a n es int d) (o * g.l) (k * g.l)
-      ∙ ap xor_all (map-append cut (map (named_blocks m g a n) es) (cond (eqb int 0) [] (d ∷ [])) ∙ ap₂ ◌++◌ (each_part es h) (pick (eqb int 0)))
+      ∙ ap xor_all (map-append cut (map (named_blocks m g a n) es) (cond int (d ∷ []) []) ∙ ap₂ ◌++◌ (each_part es h) (pick int))
     where
-      pick : (v : Bool) → map (λ (x : List ℕ). part x (o * g.l) (k * g.l)) (cond v [] (d ∷ [])) ≡ cond v [] (part d (o * g.l) (k * g.l) ∷ [])
+      pick : (v : Bool) → map (λ (x : List ℕ). part x (o * g.l) (k * g.l)) (cond v (d ∷ []) []) ≡ cond v (part d (o * g.l) (k * g.l) ∷ []) []
       pick true = refl
       pick false = refl

@@ -1,12 +1,11 @@
 -- Two strings, range by range: the media are as one REBUILD of all blocks over all sources leaves them.
-use Rattle.std.specs.Prelude.{ℕ, ◌+◌, ◌*◌, ◌≤◌, ◌<◌, ◌≡◌, refl, length}
+use Rattle.std.specs.Prelude.{ℕ, ◌+◌, ◌*◌, ◌≤◌, ◌<◌, Bool, true, ◌≡◌, refl, length, Some}
 use Rattle.std.proofs.Common.{add-mul, arith, ⊎_elim, sym, ap, ap₂, subst, ◌∙◌}
 use mathlib.Core.List.Permᴰ
 use mathlib.Core.List.{List, [], ◌∷◌, map, map-append, Permᴰ}
 use Rattle.octets.specs.Part.{part}
 use Rattle.octets.specs.Put.{put, length_put}
 use Rattle.octets.specs.Operands.{xor_all}
-use Rattle.folds.specs.declared.Found.TheVariants.{At}
 use Rattle.folds.specs.Cases.{same}
 use Rattle.folds.specs.Each.{EachIs}
 use Rattle.geometry.specs.declared.Geometry.{Geometry}
@@ -34,8 +33,8 @@ moved_together : (m y : List ℕ) (g : Geometry) (t b o : ℕ) (es fs : List Sou
     → map (onward o) (together m g t b es fs) ≡ together y g t (b + o) (map (onward o) es) (map (onward o) fs)
 moved_together m y g t b o es fs e = ap₂ (λ (k : ℕ) (xs : List Source). source k (b + o) ∷ xs) (sym e) (map-append (onward o) es fs)
 
-module _ (g : Geometry) (m : List ℕ) (t u b c n : ℕ) (es fs zs : List Source) (int : ℕ) (d : List ℕ) (x : Sent)
-    (h : Shelf m g) (found : target_of m g x.came ≡ At u) (some : 1 ≤ n) (all : Permᴰ zs (together m g t b es fs)) (asks : Asks Rebuild g.b x c n zs int d) (good : IsGood ours m x) where
+module _ (g : Geometry) (m : List ℕ) (t u b c n : ℕ) (es fs zs : List Source) (int : Bool) (d : List ℕ) (x : Sent)
+    (h : Shelf m g) (found : target_of m g x.came ≡ Some u) (some : 1 ≤ n) (all : Permᴰ zs (together m g t b es fs)) (asks : Asks Rebuild g.b x c n zs int d) (good : IsGood ours m x) where
   -- ---- the whole, on image m
 
   abbrev a : Came
@@ -91,7 +90,7 @@ module _ (g : Geometry) (m : List ℕ) (t u b c n : ℕ) (es fs zs : List Source
         }
 
     -- the second string's REBUILD wrote a part of what the whole writes
-    second : Rebuilt f g k.strung.second.shelf p.rebuild u k.strung.second.found (c + o) j k.strung.first.some_block (map (onward o) fs) 1 p.bytes
+    second : Rebuilt f g k.strung.second.shelf p.rebuild u k.strung.second.found (c + o) j k.strung.first.some_block (map (onward o) fs) true p.bytes
     second =
         second_done g p.first_on p.fetched_on f p.regenerate p.fetch p.rebuild t u (b + o) (c + o) j (map (onward o) es) (map (onward o) fs) int (cut d) p.bytes
         k.strung.first k.strung.fetched k.strung.second k.strung.same

@@ -1,13 +1,11 @@
 -- "this leaves the target's medium as one REBUILD over all the sources would"
-use Rattle.std.specs.Prelude.{ℕ, ◌≤◌, cond, ◌≡◌, eqb, length}
+use Rattle.std.specs.Prelude.{ℕ, ◌≤◌, Bool, true, cond, ◌≡◌, length, Option, Some}
 use Rattle.std.proofs.Common.{arith, sym, ap₂, ◌∙◌}
 use Rattle.std.proofs.Math.Path.{ap}
-use Rattle.std.proofs.Math.Option.{some}
 use mathlib.Core.List.Permᴰ
 use mathlib.Core.List.{List, [], ◌∷◌, ◌++◌, map, map-append, Permᴰ}
 use Rattle.octets.specs.Xor.{◌⊻◌, xor_commutes, xor_regroups, xor_swaps}
 use Rattle.octets.specs.Operands.{xor_all, xor_all_one, xor_all_append, xor_all_perm}
-use Rattle.folds.specs.declared.Found.{Found}
 use Rattle.folds.specs.Each.{EachIs, each_append, each_implies, perm_each, perm_length}
 use Rattle.folds.specs.Least.{index}
 use Rattle.geometry.specs.declared.Geometry.{Geometry}
@@ -37,7 +35,7 @@ in_turn_lem t e f r =
 
 -- ---- the first string
 
-module _ (g : Geometry) (m m' : List ℕ) (x y : Sent) (t b n : ℕ) (es : List Source) (int : ℕ) (d ys : List ℕ)
+module _ (g : Geometry) (m m' : List ℕ) (x y : Sent) (t b n : ℕ) (es : List Source) (int : Bool) (d ys : List ℕ)
     (p : First ours m g x t b n es int d) (q : Fetched ours (ours m x).image m' g y t b n ys) where
   pub first_done : Regenerated m g p.shelf x t p.found b n p.some_block es int d
   first_done = regenerated m g p.shelf x t p.found b n p.some_block es int d p.asks p.good
@@ -49,20 +47,20 @@ module _ (g : Geometry) (m m' : List ℕ) (x y : Sent) (t b n : ℕ) (es : List 
   pub fetched : ys ≡ its
   fetched =
       let k = result_in 2 (blocks t b n) its in
-      let newest : first_of (answers t b) (results m' g) ≡ some k =
+      let newest : first_of (answers t b) (results m' g) ≡ Some k =
       q.newest ∙ ap (first_of (answers t b)) first_done.after.retained ∙ first_hit (answers t b) k (results m g) (answers_own k) in
       q.bytes
       ∙ xdread_handed m' g q.shelf y t q.found q.code q.good k (ap (λ (i : ℕ). first_of (answers t i) (results m' g)) q.block ∙ newest)
 
 -- ---- and the second
 
-module _ (g : Geometry) (m m' m'' : List ℕ) (x y z : Sent) (t u b c n : ℕ) (es fs : List Source) (int : ℕ) (d ys : List ℕ)
+module _ (g : Geometry) (m m' m'' : List ℕ) (x y z : Sent) (t u b c n : ℕ) (es fs : List Source) (int : Bool) (d ys : List ℕ)
     (p : First ours m g x t b n es int d) (q : Fetched ours (ours m x).image m' g y t b n ys) (v : Second ours m'' g z u c n fs ys) (w : SameMedia m m'' g) where
   did_first : Regenerated m g p.shelf x t p.found b n p.some_block es int d
   did_first = first_done g m m' x y t b n es int d ys p q
 
-  pub second_done : Rebuilt m'' g v.shelf z u v.found c n p.some_block fs 1 ys
-  second_done = rebuilt m'' g v.shelf z u v.found c n p.some_block fs 1 ys v.asks v.good
+  pub second_done : Rebuilt m'' g v.shelf z u v.found c n p.some_block fs true ys
+  second_done = rebuilt m'' g v.shelf z u v.found c n p.some_block fs true ys v.asks v.good
 
   abbrev passed : List ℕ
   passed = its g m m' x y t b n es int d ys p q
@@ -74,12 +72,12 @@ module _ (g : Geometry) (m m' m'' : List ℕ) (x y z : Sent) (t u b c n : ℕ) (
     named = named_blocks m'' g a n
 
     abbrev rest : List (List ℕ)
-    rest = cond (eqb int 0) [] (d ∷ [])
+    rest = cond int (d ∷ []) []
 
     -- the first string's own target, as a source
     own_named : named (source_at m'' g b t) ≡ blocks_at m g t b n
     own_named =
-        ap (λ (f : Found). blocks_at m'' g (index f) b n) (drive_found m'' g v.shelf.table_fine t did_first.target_blocks.range.drive_in)
+        ap (λ (f : Option ℕ). blocks_at m'' g (index f) b n) (drive_found m'' g v.shelf.table_fine t did_first.target_blocks.range.drive_in)
         ∙ sym (same_blocks m m'' g w t b n did_first.target_blocks.range)
 
     passed_is : passed ≡ named (source_at m'' g b t) ⊻ (xor_all (map named es) ⊻ xor_all rest)
@@ -96,13 +94,13 @@ module _ (g : Geometry) (m m' m'' : List ℕ) (x y z : Sent) (t u b c n : ℕ) (
         ∙ ap (λ (xs : List (List ℕ)). named (source_at m'' g b t) ⊻ xor_all xs) (map-append named es fs)
         ∙ ap (◌⊻◌ (named (source_at m'' g b t))) (xor_all_append (map named es) (map named fs)))
 
-    second_is : xor_all (operands m'' g z.came n fs 1 ys) ≡ xor_all (map named fs) ⊻ passed
+    second_is : xor_all (operands m'' g z.came n fs true ys) ≡ xor_all (map named fs) ⊻ passed
     second_is =
         ap₂ (λ (xs : List (List ℕ)) (k : List ℕ). xor_all (xs ++ k ∷ [])) (each_named m'' m'' g (same_itself m'' g) z.came a (blocks u c n) fs second_done.each) (fetched g m m' x y t b n es int d ys p q)
         ∙ xor_all_append (map named fs) (passed ∷ [])
         ∙ ap (◌⊻◌ (xor_all (map named fs))) (xor_all_one passed)
 
-    pub sum_is : xor_all (operands m'' g a n zs int d) ≡ xor_all (operands m'' g z.came n fs 1 ys)
+    pub sum_is : xor_all (operands m'' g a n zs int d) ≡ xor_all (operands m'' g z.came n fs true ys)
     sum_is =
         all_is
         ∙ in_turn_lem (named (source_at m'' g b t)) (xor_all (map named es)) (xor_all (map named fs)) (xor_all rest)

@@ -1,8 +1,8 @@
 -- GOOD, where there is a list and a length: the command was carried out. What REBUILD then wrote, and what REGENERATE retained.
-use Rattle.std.specs.Prelude.{ℕ, ◌+◌, ◌*◌, ◌≤◌, Bool, true, false, not, cond, ◌≡◌, eqb, get_or}
+use Rattle.std.specs.Prelude.{ℕ, ◌+◌, ◌*◌, ◌≤◌, Bool, true, false, not, cond, ◌≡◌, eqb, get_or, Option, Some}
+use Rattle.folds.specs.Cases.{some_same}
 use Rattle.std.proofs.Common.{arith, true≢false, subst, ◌∙◌, length-drop, ne_eqb}
 use Rattle.std.proofs.Math.Path.{refl, sym, ap, ap₂}
-use Rattle.std.proofs.Math.Option.{some, some-injective}
 use mathlib.Core.List.{List, [], ◌∷◌, map}
 use Rattle.std.proofs.Math.ListN.{length}
 use Rattle.octets.specs.Part.{part, length_part, length_part_le}
@@ -11,8 +11,6 @@ use Rattle.octets.specs.PutPut.{part_put}
 use Rattle.octets.specs.Number.{be}
 use Rattle.octets.specs.Xor.{◌⊻◌}
 use Rattle.octets.specs.Operands.{xor_all}
-use Rattle.folds.specs.declared.Found.{Found}
-use Rattle.folds.specs.declared.Found.TheVariants.{At}
 use Rattle.folds.specs.Every.{every}
 use Rattle.folds.specs.Each.{EachIs}
 use Rattle.folds.specs.Least.{index}
@@ -38,8 +36,7 @@ use Rattle.command.specs.declared.Source.{Source}
 use Rattle.command.specs.Command.{op_of, command_of, ten_of, listed_of, own_of, resolved_of, resolved_count}
 use Rattle.meaning.specs.declared.Span.{Span}
 use Rattle.meaning.specs.declared.Act.TheVariants.{XdRead as ToXdRead, Rebuild as ToRebuild, Regenerate as ToRegenerate}
-use Rattle.meaning.specs.declared.Decision.{Decision}
-use Rattle.meaning.specs.declared.Decision.TheVariants.{Stop, Go}
+use Rattle.meaning.specs.Decision.{Decision, stop, go}
 use Rattle.meaning.specs.Acts.{over, gathered}
 use Rattle.meaning.specs.Allowed.{Blocks, NamesOther, Sourced}
 use Rattle.meaning.proofs.Lengths.{length_gathered}
@@ -66,7 +63,7 @@ unfoldable all_silent : List Check → Bool
 all_silent qs = every (map silent qs)
 
 -- then a GOOD answer comes from behind them
-from_behind : (m s : List ℕ) (qs : List Check) (d : Decision) → all_silent qs ≡ true → (outcome_after (first Stop qs d) m s).answer ≡ Good → first Stop qs d ≡ d
+from_behind : (m s : List ℕ) (qs : List Check) (d : Decision) → all_silent qs ≡ true → (outcome_after (first stop qs d) m s).answer ≡ Good → first stop qs d ≡ d
 unfolding all_silent every
 from_behind m s [] d h e = refl
 from_behind m s (rule n w true a ∷ qs) d h e =
@@ -82,7 +79,7 @@ module _ (m : List ℕ) (a : Came) (c s r : List ℕ) where
       → decided m a c s r ≡ carried_out o m a c s
   unfolding decide_of step_outcome
   good_behind o q h e =
-      let by : Op → Decision = (λ o. first Stop (checks o m a c s (length r)) (carried_out o m a c s)) in
+      let by : Op → Decision = (λ o. first stop (checks o m a c s (length r)) (carried_out o m a c s)) in
       ap by q ∙ from_behind m s (checks o m a c s (length r)) (carried_out o m a c s) h (ap (λ (z : Op). (outcome_after (by z) m s).answer) (sym q) ∙ e)
 
   -- with a list and a length none of REBUILD's and of REGENERATE's does
@@ -97,8 +94,8 @@ module _ (m : List ℕ) (a : Came) (c s r : List ℕ) where
 
 -- ---- what was asked was done
 
-module _ (m : List ℕ) (g : Geometry) (h : Shelf m g) (x : Sent) (t : ℕ) (found : target_of m g x.came ≡ At t)
-    (b n : ℕ) (some : 1 ≤ n) (es : List Source) (int : ℕ) (d : List ℕ) where
+module _ (m : List ℕ) (g : Geometry) (h : Shelf m g) (x : Sent) (t : ℕ) (found : target_of m g x.came ≡ Some t)
+    (b n : ℕ) (some : 1 ≤ n) (es : List Source) (int : Bool) (d : List ℕ) where
   abbrev a : Came
   a = x.came
 
@@ -119,7 +116,7 @@ module _ (m : List ℕ) (g : Geometry) (h : Shelf m g) (x : Sent) (t : ℕ) (fou
     of_shelf : carried_out o m a c s ≡ acts o m g t (command_of o a c) s
     of_shelf =
         ap (λ (k : Geometry). acts o m k (index (target_of m k a)) (command_of o a c) s) h.header
-        ∙ ap (λ (f : Found). acts o m g (index f) (command_of o a c) s) found
+        ∙ ap (λ (f : Option ℕ). acts o m g (index f) (command_of o a c) s) found
 
     span_asked : blocks t (be 4 s 4) (resolved_count (be 4 c 2) (be 4 s 4) g.b) ≡ blocks t b n
     span_asked = ap₂ (blocks t) q.own (ap (λ (k : ℕ). resolved_count (be 4 c 2) k g.b) q.own ∙ q.long)
@@ -136,7 +133,7 @@ module _ (m : List ℕ) (g : Geometry) (h : Shelf m g) (x : Sent) (t : ℕ) (fou
     some_asked v = omega (arith, v.some_source, entries_long s 0 (get_or s 0 0), ap length q.sources)
 
     -- the intermediate data is as long as the blocks
-    long_asked : Sourced m g (blocks t b n) (summing a int) s → length d ≡ cond (eqb int 0) 0 (n * g.l)
+    long_asked : Sourced m g (blocks t b n) (summing a int) s → length d ≡ cond int (n * g.l) 0
     long_asked v = ap length (sym q.rest) ∙ length-drop (8 + 8 * get_or s 0 0) s ∙ omega (arith, v.exact)
 
   -- a REBUILD that was answered GOOD
@@ -144,18 +141,18 @@ module _ (m : List ℕ) (g : Geometry) (h : Shelf m g) (x : Sent) (t : ℕ) (fou
     pub target_blocks : Blocks m g (blocks t b n)
     pub each : EachIs (NamesOther m g a (blocks t b n)) es
     pub some_source : 1 ≤ length es
-    pub data_long : length d ≡ cond (eqb int 0) 0 (n * g.l)
+    pub data_long : length d ≡ cond int (n * g.l) 0
     pub sum_long : length (xor_all (operands m g a n es int d)) ≡ n * g.l
     pub image : step_image m a c s x.room ≡ put m (place g t b) (xor_all (operands m g a n es int d))
     pub after : After m (step_image m a c s x.room) g (state_of m g) (over (blocks t b n) (xor_all (operands m g a n es int d)) ∷ []) (results m g)
 
   module _ (q : Asks Rebuild g.b x b n es int d) (good : IsGood ours m x) where
-    rebuild_went : decided m a c s x.room ≡ Go (ToRebuild (blocks t b n) (summing a int)) Good
+    rebuild_went : decided m a c s x.room ≡ go (ToRebuild (blocks t b n) (summing a int)) Good
     unfolding listed_of own_of resolved_of
     rebuild_went =
         good_behind m a c s x.room Rebuild q.code (rebuild_silent m a c s x.room (list_some Rebuild q) (count_some Rebuild q)) good
         ∙ of_shelf Rebuild q
-        ∙ ap₂ (λ (y : Span) (i : ℕ). Go (ToRebuild y (summing a i)) Good) (span_asked Rebuild q) q.flag
+        ∙ ap₂ (λ (y : Span) (i : Bool). go (ToRebuild y (summing a i)) Good) (span_asked Rebuild q) q.flag
 
     pub rebuilt : Rebuilt
     rebuilt =
@@ -178,19 +175,19 @@ module _ (m : List ℕ) (g : Geometry) (h : Shelf m g) (x : Sent) (t : ℕ) (fou
   pub record Regenerated : Type 0 where
     pub target_blocks : Blocks m g (blocks t b n)
     pub each : EachIs (NamesOther m g a (blocks t b n)) es
-    pub data_long : length d ≡ cond (eqb int 0) 0 (n * g.l)
-    pub free : empty_slot m g ≡ At (index (empty_slot m g))
+    pub data_long : length d ≡ cond int (n * g.l) 0
+    pub free : empty_slot m g ≡ Some (index (empty_slot m g))
     pub sound : Sound g result
     pub image : step_image m a c s x.room ≡ with_result m g result
     pub after : After m (step_image m a c s x.room) g (state_of m g) [] (result ∷ results m g)
 
   module _ (q : Asks Regenerate g.b x b n es int d) (good : IsGood ours m x) where
-    regenerate_went : decided m a c s x.room ≡ Go (ToRegenerate (blocks t b n) (summing a int) (index (empty_slot m g))) Good
+    regenerate_went : decided m a c s x.room ≡ go (ToRegenerate (blocks t b n) (summing a int) (index (empty_slot m g))) Good
     unfolding listed_of own_of resolved_of
     regenerate_went =
         good_behind m a c s x.room Regenerate q.code (regenerate_silent m a c s x.room (list_some Regenerate q) (count_some Regenerate q)) good
         ∙ of_shelf Regenerate q
-        ∙ ap₂ (λ (y : Span) (i : ℕ). Go (ToRegenerate y (summing a i) (index (empty_slot m g))) Good) (span_asked Regenerate q) q.flag
+        ∙ ap₂ (λ (y : Span) (i : Bool). go (ToRegenerate y (summing a i) (index (empty_slot m g))) Good) (span_asked Regenerate q) q.flag
 
     pub regenerated : Regenerated
     regenerated =
@@ -213,29 +210,29 @@ module _ (m : List ℕ) (g : Geometry) (h : Shelf m g) (x : Sent) (t : ℕ) (fou
 -- ---- XDREAD
 
 -- an XDREAD that was answered GOOD handed out the newest result of its drive at its block
-module _ (m : List ℕ) (g : Geometry) (h : Shelf m g) (x : Sent) (t : ℕ) (found : target_of m g x.came ≡ At t) (code : op_of (get_or x.cdb 0 0) ≡ XdRead) (good : IsGood ours m x) where
+module _ (m : List ℕ) (g : Geometry) (h : Shelf m g) (x : Sent) (t : ℕ) (found : target_of m g x.came ≡ Some t) (code : op_of (get_or x.cdb 0 0) ≡ XdRead) (good : IsGood ours m x) where
   abbrev block : ℕ
   block = be 4 x.cdb 2
 
   abbrev slot : ℕ
   slot = index (newest_of m g t block)
 
-  xdread_went : decided m x.came x.cdb x.bytes x.room ≡ Go (ToXdRead (blocks t block (be 2 x.cdb 7)) slot) Good
+  xdread_went : decided m x.came x.cdb x.bytes x.room ≡ go (ToXdRead (blocks t block (be 2 x.cdb 7)) slot) Good
   unfolding all_silent every ten_of
   xdread_went =
       good_behind m x.came x.cdb x.bytes x.room XdRead code refl good
       ∙ ap (λ (y : Geometry). acts XdRead m y (index (target_of m y x.came)) (ten_of XdRead x.came x.cdb) x.bytes) h.header
-      ∙ ap (λ (f : Found). acts XdRead m g (index f) (ten_of XdRead x.came x.cdb) x.bytes) found
+      ∙ ap (λ (f : Option ℕ). acts XdRead m g (index f) (ten_of XdRead x.came x.cdb) x.bytes) found
 
   abbrev handed : List ℕ
   handed = part m (data_at g slot) (be 2 x.cdb 7 * g.l)
 
-  pub xdread_handed : (z : Result) → first_of (answers t block) (results m g) ≡ some z → part (step_room m x.came x.cdb x.bytes x.room) 0 (z.len * g.l) ≡ z.bytes
+  pub xdread_handed : (z : Result) → first_of (answers t block) (results m g) ≡ Some z → part (step_room m x.came x.cdb x.bytes x.room) 0 (z.len * g.l) ≡ z.bytes
   unfolding result_at
   xdread_handed z first_is =
       let w = allowed_at m g h x.came x.cdb x.bytes (length x.room) _ Good xdread_went in
       let e = exactly m g h x.came x.cdb x.bytes x.room _ xdread_went in
-      let its : result_at m g slot ≡ z = some-injective (result_at m g slot) z (sym (newest_result m g h.slots_fine t block slot w.0.answers) ∙ first_is) in
+      let its : result_at m g slot ≡ z = some_same (result_at m g slot) z (sym (newest_result m g h.slots_fine t block slot w.0.answers) ∙ first_is) in
       let asked : be 2 x.cdb 7 ≡ z.len = sym w.0.same_len ∙ ap (λ (y : Result). y.len) its in
       let l : length handed ≡ z.len * g.l =
       length_part m (data_at g slot) (be 2 x.cdb 7 * g.l) (data_in m g slot (be 2 x.cdb 7) (shelf_frame m g h) w.0.slot_in w.0.limited) ∙ ap (λ (k : ℕ). k * g.l) asked in

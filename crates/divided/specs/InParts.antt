@@ -1,10 +1,9 @@
 -- A9 as properties of any program: one REBUILD and two over two strings; a list and the same list in another order; a REBUILD and its ranges.
-use Rattle.std.specs.Prelude.{ℕ, ◌+◌, ◌*◌, ◌/◌, ◌%◌, ◌≤◌, ◌<◌, false, cond, ◌⊎◌, ◌≡◌, eqb, length, get_or}
+use Rattle.std.specs.Prelude.{ℕ, ◌+◌, ◌*◌, ◌/◌, ◌%◌, ◌≤◌, ◌<◌, Bool, true, false, cond, ◌⊎◌, ◌≡◌, eqb, length, get_or, Some}
 use mathlib.Core.List.{List, [], ◌∷◌, ◌++◌, map, Permᴰ}
 use Rattle.octets.specs.Part.{part}
 use Rattle.octets.specs.Number.{be}
 use Rattle.octets.specs.Octets.{Octets}
-use Rattle.folds.specs.declared.Found.TheVariants.{At}
 use Rattle.folds.specs.Each.{EachIs}
 use Rattle.geometry.specs.declared.Geometry.{Geometry}
 use Rattle.geometry.specs.Header.{blocks_at}
@@ -64,12 +63,12 @@ leaving m x = reply (outcome_of Good 0) m x.room
 
 -- ---- what REBUILD and REGENERATE ask for
 
--- the command x, with a list, asks for n blocks from block b on, of drives of B, from the sources es; with Int Data d where int is not 0:
+-- the command x, with a list, asks for n blocks from block b on, of drives of B, from the sources es; with Int Data d where int says so:
 -- "byte 1: bit 2 Int Data", "length 2-5, list length 7-8", where "length FFFFFFFFh means to the last block"; in the list "4-7 own block; then 8
 -- bytes per source"
-pub record Asks (o : Op) (B : ℕ) (x : Sent) (b n : ℕ) (es : List Source) (int : ℕ) (d : List ℕ) : Type 0 where
+pub record Asks (o : Op) (B : ℕ) (x : Sent) (b n : ℕ) (es : List Source) (int : Bool) (d : List ℕ) : Type 0 where
   pub code : op_of (get_or x.cdb 0 0) ≡ o
-  pub flag : get_or x.cdb 1 0 / 4 % 2 ≡ int
+  pub flag : eqb (get_or x.cdb 1 0 / 4 % 2) 1 ≡ int
   pub long : resolved_count (be 4 x.cdb 2) b B ≡ n
   pub listed : be 2 x.cdb 7 ≡ 8 + 8 * length es
   pub own : be 4 x.bytes 4 ≡ b
@@ -81,11 +80,11 @@ abbrev pub rebuilding : Came → ℕ → ℕ → ℕ → List Source → List �
 rebuilding a flags count b es d r = sent a (rebuild_cdb flags count (length es)) (list_of b es d) r
 
 -- it is sent to drive u, byte 1 says Int Data or not, "length FFFFFFFFh means to the last block", and not with Int Data; a byte counts its sources
-pub record WellSaid (m : List ℕ) (g : Geometry) (a : Came) (u flags int count b n : ℕ) (es : List Source) : Type 0 where
-  pub found : target_of m g a ≡ At u
+pub record WellSaid (m : List ℕ) (g : Geometry) (a : Came) (u flags : ℕ) (int : Bool) (count b n : ℕ) (es : List Source) : Type 0 where
+  pub found : target_of m g a ≡ Some u
   pub byte : ListByte flags int
   pub how_long : HowLong g.b b n count
-  pub exact : (int ≡ 0) ⊎ (count ≡ n)
+  pub exact : (int ≡ false) ⊎ (count ≡ n)
   pub few : length es < 256
 
 -- ---- "the order of entries never matters to a GOOD result"
@@ -121,9 +120,9 @@ pub record SameMedia (m m' : List ℕ) (g : Geometry) : Type 0 where
   pub media : (d : ℕ) → d < g.d → medium_of m g d ≡ medium_of m' g d
 
 -- REGENERATE x to drive t on image m, from the sources es and with Int Data d of its own or not
-pub record First (step : Program) (m : List ℕ) (g : Geometry) (x : Sent) (t b n : ℕ) (es : List Source) (int : ℕ) (d : List ℕ) : Type 0 where
+pub record First (step : Program) (m : List ℕ) (g : Geometry) (x : Sent) (t b n : ℕ) (es : List Source) (int : Bool) (d : List ℕ) : Type 0 where
   pub shelf : Shelf m g
-  pub found : target_of m g x.came ≡ At t
+  pub found : target_of m g x.came ≡ Some t
   pub asks : Asks Regenerate g.b x b n es int d
   pub some_block : 1 ≤ n
   pub good : IsGood step m x
@@ -131,7 +130,7 @@ pub record First (step : Program) (m : List ℕ) (g : Geometry) (x : Sent) (t b 
 -- its bytes ys, of n blocks, fetched by XDREAD y on image m': the newest result at drive t's block b is there still what it was on image left
 pub record Fetched (step : Program) (left m' : List ℕ) (g : Geometry) (y : Sent) (t b n : ℕ) (ys : List ℕ) : Type 0 where
   pub shelf : Shelf m' g
-  pub found : target_of m' g y.came ≡ At t
+  pub found : target_of m' g y.came ≡ Some t
   pub code : op_of (get_or y.cdb 0 0) ≡ XdRead
   pub block : be 4 y.cdb 2 ≡ b
   pub newest : first_of (answers t b) (results m' g) ≡ first_of (answers t b) (results left g)
@@ -142,8 +141,8 @@ pub record Fetched (step : Program) (left m' : List ℕ) (g : Geometry) (y : Sen
 pub record Second (step : Program) (m : List ℕ) (g : Geometry) (z : Sent) (u b n : ℕ) (es : List Source) (ys : List ℕ) : Type 0 where
   pub shelf : Shelf m g
   pub bytes : Octets m
-  pub found : target_of m g z.came ≡ At u
-  pub asks : Asks Rebuild g.b z b n es 1 ys
+  pub found : target_of m g z.came ≡ Some u
+  pub asks : Asks Rebuild g.b z b n es true ys
   pub good : IsGood step m z
 
 -- "all the sources" and "the first string's own target counted besides"
@@ -152,12 +151,12 @@ together m g t b es fs = source_at m g b t ∷ es ++ fs
 
 -- what the second image must have besides for an entry of the first string, and for its target: the drive is present there, and is not u
 abbrev pub Ready : List ℕ → Geometry → Came → ℕ → Source → Type 0
-Ready m g a u e = (v : ℕ) → source_drive m g a e.address.0 ≡ At v → (failed m g v ≡ false) × (v ≡ u → ⊥)
+Ready m g a u e = (v : ℕ) → source_drive m g a e.address.0 ≡ Some v → (failed m g v ≡ false) × (v ≡ u → ⊥)
 
 -- one REBUILD to drive u, its list in any order, is then GOOD on the second image and leaves what the second string's left of it
 abbrev pub Joins : Program → Type 0
 Joins step =
-    (g : Geometry) (m m' m'' : List ℕ) (x y z : Sent) (t u b c n : ℕ) (es fs zs : List Source) (int : ℕ) (d ys : List ℕ) (a : Came) (flags count : ℕ) (r : List ℕ)
+    (g : Geometry) (m m' m'' : List ℕ) (x y z : Sent) (t u b c n : ℕ) (es fs zs : List Source) (int : Bool) (d ys : List ℕ) (a : Came) (flags count : ℕ) (r : List ℕ)
     → First step m g x t b n es int d → Fetched step (step m x).image m' g y t b n ys → Second step m'' g z u c n fs ys → SameMedia m m'' g
     → Permᴰ zs (together m'' g t b es fs) → WellSaid m'' g a u flags int count c n zs → EachIs (Ready m'' g a u) (source_at m'' g b t ∷ es)
     → step m'' (rebuilding a flags count c zs d r) ≡ leaving (step m'' z).image (rebuilding a flags count c zs d r)
@@ -184,8 +183,8 @@ pub record Cut : Type 0 where
   pub by : Sent
 
 -- to drive u, of the whole's blocks from block b on: every source is moved along, and the intermediate data is the range's own part
-pub record CutOf (m : List ℕ) (g : Geometry) (u b : ℕ) (es : List Source) (int : ℕ) (d : List ℕ) (p : Cut) : Type 0 where
-  pub found : target_of m g p.by.came ≡ At u
+pub record CutOf (m : List ℕ) (g : Geometry) (u b : ℕ) (es : List Source) (int : Bool) (d : List ℕ) (p : Cut) : Type 0 where
+  pub found : target_of m g p.by.came ≡ Some u
   pub some_block : 1 ≤ p.range.count
   pub asks : Asks Rebuild g.b p.by (b + p.range.from) p.range.count (map (onward p.range.from) es) int
       (part d (p.range.from * g.l) (p.range.count * g.l))
@@ -202,8 +201,8 @@ left step (p ∷ ps) m = left step ps (step m p.by).image
 -- the whole is then GOOD and leaves what they left, in whatever order ps they were sent
 abbrev pub CutFree : Program → Type 0
 CutFree step =
-    (g : Geometry) (m : List ℕ) (u b n : ℕ) (es : List Source) (int : ℕ) (d : List ℕ) (ps qs : List Cut) (a : Came) (flags count : ℕ) (r : List ℕ)
-    → Shelf m g → Octets m → 1 ≤ n → length d ≡ cond (eqb int 0) 0 (n * g.l) → WellSaid m g a u flags int count b n es
+    (g : Geometry) (m : List ℕ) (u b n : ℕ) (es : List Source) (int : Bool) (d : List ℕ) (ps qs : List Cut) (a : Came) (flags count : ℕ) (r : List ℕ)
+    → Shelf m g → Octets m → 1 ≤ n → length d ≡ cond int (n * g.l) 0 → WellSaid m g a u flags int count b n es
     → EachIs (CutOf m g u b es int d) ps → Permᴰ qs ps → Adjoining 0 n (map (λ p. p.range) qs) → EachGood step ps m
     → step m (rebuilding a flags count b es d r) ≡ leaving (left step ps m) (rebuilding a flags count b es d r)
 
@@ -220,7 +219,7 @@ pub record Strung : Type 0 where
   pub second_on : List ℕ
   pub bytes : List ℕ
 
-module _ (step : Program) (g : Geometry) (t u b c : ℕ) (es fs : List Source) (int : ℕ) (d : List ℕ) where
+module _ (step : Program) (g : Geometry) (t u b c : ℕ) (es fs : List Source) (int : Bool) (d : List ℕ) where
   pub record StrungOf (p : Strung) : Type 0 where
     pub first : First step p.first_on g p.regenerate t (b + p.range.from) p.range.count (map (onward p.range.from) es) int
         (part d (p.range.from * g.l) (p.range.count * g.l))
@@ -236,9 +235,9 @@ module _ (step : Program) (g : Geometry) (t u b c : ℕ) (es fs : List Source) (
 -- the media are then as one REBUILD x of all blocks over all sources leaves them, wherever it is GOOD with the same media
 abbrev pub JoinsByRanges : Program → Type 0
 JoinsByRanges step =
-    (g : Geometry) (m m' e : List ℕ) (t u b c n : ℕ) (es fs zs : List Source) (int : ℕ) (d : List ℕ) (ps qs : List Strung) (x : Sent)
+    (g : Geometry) (m m' e : List ℕ) (t u b c n : ℕ) (es fs zs : List Source) (int : Bool) (d : List ℕ) (ps qs : List Strung) (x : Sent)
     → Chain step g t u b c es fs int d ps m e → Permᴰ qs ps → Adjoining 0 n (map (λ p. p.range) qs) → SameMedia m m' g
-    → Shelf m' g → target_of m' g x.came ≡ At u → 1 ≤ n → Permᴰ zs (together m' g t b es fs) → Asks Rebuild g.b x c n zs int d → IsGood step m' x
+    → Shelf m' g → target_of m' g x.came ≡ Some u → 1 ≤ n → Permᴰ zs (together m' g t b es fs) → Asks Rebuild g.b x c n zs int d → IsGood step m' x
     → (v : ℕ) → v < g.d → medium_of e g v ≡ medium_of (step m' x).image g v
 
 -- ---- all of it

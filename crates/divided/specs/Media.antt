@@ -1,11 +1,9 @@
 -- Drives and blocks of two images with the same media.
-use Rattle.std.specs.Prelude.{ℕ, ◌+◌, ◌*◌, ◌≤◌, ◌<◌, ◌≡◌, refl, List, [], ◌∷◌, map, length}
+use Rattle.std.specs.Prelude.{ℕ, ◌+◌, ◌*◌, ◌≤◌, ◌<◌, ◌≡◌, refl, List, [], ◌∷◌, map, length, Option, Some}
 use Rattle.std.proofs.Common.{mul-le-mul_right, add-mul, zero-add, arith, inl, sym, ap, ap₂, ◌∙◌}
 use Rattle.octets.specs.Part.{part, part_part}
 use Rattle.octets.specs.Put.{put}
 use Rattle.octets.specs.PutPut.{part_put_in}
-use Rattle.folds.specs.declared.Found.{Found}
-use Rattle.folds.specs.declared.Found.TheVariants.{At}
 use Rattle.folds.specs.Each.{EachIs}
 use Rattle.folds.specs.Least.{index}
 use Rattle.geometry.specs.declared.Geometry.{Geometry}
@@ -67,7 +65,7 @@ module _ (m m' : List ℕ) (g : Geometry) (w : SameMedia m m' g) where
     same_named : (e : Source) → NamesOther m g a x e → named_blocks m g a x.count e ≡ named_blocks m' g a' x.count e
     same_named e o =
         same_blocks (home_of m g a e) e.block.0 x.count (home_range m g a x e o)
-        ∙ ap (λ (f : Found). blocks_at m' g (index f) e.block.0 x.count) (same_drive a a' e.address.0)
+        ∙ ap (λ (f : Option ℕ). blocks_at m' g (index f) e.block.0 x.count) (same_drive a a' e.address.0)
 
     pub each_named : (es : List Source) → EachIs (NamesOther m g a x) es → map (named_blocks m g a x.count) es ≡ map (named_blocks m' g a' x.count) es
     each_named [] h = refl
@@ -76,7 +74,7 @@ module _ (m m' : List ℕ) (g : Geometry) (w : SameMedia m m' g) where
   -- a source of an image is one of the other where its drive is present there, and is not the target
   pub names_on : (a a' : Came) (x : Span) (u c : ℕ) (e : Source) → NamesOther m g a x e → Ready m' g a' u e → NamesOther m' g a' (blocks u c x.count) e
   names_on a a' x u c e o k =
-      let f : source_drive m' g a' e.address.0 ≡ At o.drive = sym (same_drive a a' e.address.0) ∙ o.found in
+      let f : source_drive m' g a' e.address.0 ≡ Some o.drive = sym (same_drive a a' e.address.0) ∙ o.found in
       record { drive = o.drive; found = f; range = o.range; present = (k o.drive f).0; other = (k o.drive f).1 }
 
 pub same_itself : (m : List ℕ) (g : Geometry) → SameMedia m m g

@@ -1,5 +1,5 @@
 -- A REBUILD or REGENERATE that was written from its sources asks for what it was written from.
-use Rattle.std.specs.Prelude.{ℕ, ◌+◌, ◌*◌, ◌/◌, ◌%◌, ◌≤◌, ◌<◌, ◌≡◌, refl, List, get_or}
+use Rattle.std.specs.Prelude.{ℕ, ◌+◌, ◌*◌, ◌/◌, ◌%◌, ◌≤◌, ◌<◌, Bool, ◌≡◌, refl, List, eqb, get_or}
 use Rattle.std.proofs.Common.{arith, inl, ◌∙◌}
 use Rattle.std.proofs.Math.Path.{ap}
 use Rattle.std.proofs.Math.ListN.{length}
@@ -20,14 +20,14 @@ abbrev pub regenerating : Came → ℕ → ℕ → ℕ → List Source → List 
 regenerating a flags n b es d r = sent a (regenerate_cdb flags n (length es)) (list_of b es d) r
 
 -- of one block at least, with at most 255 sources, on drives of B blocks
-module _ (B b n : ℕ) (es : List Source) (int : ℕ) (d : List ℕ) (a : Came) (flags : ℕ) (r : List ℕ) (some : 1 ≤ n) (inside : b + n ≤ B) (most : B ≤ 65536)
+module _ (B b n : ℕ) (es : List Source) (int : Bool) (d : List ℕ) (a : Came) (flags : ℕ) (r : List ℕ) (some : 1 ≤ n) (inside : b + n ≤ B) (most : B ≤ 65536)
     (fit : EachIs Fitting es) (few : length es < 256) (z : ListByte flags int) where
   asks_by : (o : Op) (c : List ℕ) (count : ℕ) → HowLong B b n count → op_of (get_or c 0 0) ≡ o → get_or c 1 0 ≡ flags → be 4 c 2 ≡ count → be 2 c 7 ≡ 8 + 8 * length es
       → Asks o B (sent a c (list_of b es d) r) b n es int d
   asks_by o c count how code byte long list =
       record {
         code = code;
-        flag = ap (λ (k : ℕ). k / 4 % 2) byte ∙ z.int_is;
+        flag = ap (λ (k : ℕ). eqb (k / 4 % 2) 1) byte ∙ z.int_is;
         long = ap (λ (k : ℕ). resolved_count k b B) long ∙ (resolves B b n count some inside most how).is;
         listed = list;
         own = (list_headed b es d (omega arith)).own;

@@ -1,5 +1,5 @@
 -- A REBUILD from its bytes, where its sources are named and the XOR of its operands is known.
-use Rattle.std.specs.Prelude.{ℕ, ◌*◌, ◌≤◌, cond, ◌≡◌, List, eqb, length}
+use Rattle.std.specs.Prelude.{ℕ, ◌*◌, ◌≤◌, Bool, cond, ◌≡◌, List, length}
 use Rattle.std.proofs.Common.{sym, ap, ap₂, ◌∙◌}
 use Rattle.octets.specs.Put.{put, put_nil}
 use Rattle.octets.specs.Octets.{Octets}
@@ -26,9 +26,9 @@ stepped m a c s r o m' r' x =
     let y = ours m (sent a c s r) in
     ap (λ (z : Outcome). reply z y.image y.room) (sym x.outcome) ∙ ap₂ (reply o) (sym x.image) (sym x.room)
 
-module _ (m : List ℕ) (g : Geometry) (h : Shelf m g) (bytes : Octets m) (a : Came) (u flags int count b n : ℕ) (es : List Source) (d : List ℕ)
+module _ (m : List ℕ) (g : Geometry) (h : Shelf m g) (bytes : Octets m) (a : Came) (u flags : ℕ) (int : Bool) (count b n : ℕ) (es : List Source) (d : List ℕ)
     (said : WellSaid m g a u flags int count b n es) where
-  pub whole : Blocks m g (blocks u b n) → EachIs (NamesOther m g a (blocks u b n)) es → 1 ≤ length es → length d ≡ cond (eqb int 0) 0 (n * g.l)
+  pub whole : Blocks m g (blocks u b n) → EachIs (NamesOther m g a (blocks u b n)) es → 1 ≤ length es → length d ≡ cond int (n * g.l) 0
       → (r ys : List ℕ) → xor_all (operands m g a n es int d) ≡ ys
       → ours m (rebuilding a flags count b es d r) ≡ leaving (put m (place g u b) ys) (rebuilding a flags count b es d r)
   whole w each one long r ys e =

@@ -1,7 +1,6 @@
 -- 01: "Drive table at 32: per drive 4 bytes, state (0 present, 1 failed) and a 3-byte address. Addresses differ."
-use Rattle.std.specs.Prelude.{ℕ, ◌+◌, List, [], ◌∷◌, Bool, not, get_or, leb, eqb}
+use Rattle.std.specs.Prelude.{ℕ, ◌+◌, List, [], ◌∷◌, Bool, not, get_or, leb, eqb, Option}
 use Rattle.octets.specs.Number.{be}
-use Rattle.folds.specs.declared.Found.{Found}
 use Rattle.folds.specs.Every.{every}
 use Rattle.folds.specs.All.{all_below}
 use Rattle.folds.specs.Least.{least_below}
@@ -35,7 +34,7 @@ unfoldable pub table_ok : List ℕ → Geometry → Bool
 table_ok m g = all_below g.d (λ i. every (tests_of (entry_musts m g i)))
 
 -- the drive with address a, compared as a whole number
-unfoldable pub drive_of : List ℕ → Geometry → ℕ → Found
+unfoldable pub drive_of : List ℕ → Geometry → ℕ → Option ℕ
 drive_of m g a = least_below g.d (λ i. eqb (address_of m g i) a)
 
 -- a command that was sent to address n
@@ -43,13 +42,13 @@ abbrev pub to : ℕ → Came
 to n = record { target = record { 0 = n } }
 
 -- the drive that a command was sent to, the one that it names as its secondary, and the one that a source entry of it names
-abbrev pub target_of : List ℕ → Geometry → Came → Found
+abbrev pub target_of : List ℕ → Geometry → Came → Option ℕ
 target_of m g a = drive_of m g a.target.0
 
-abbrev pub secondary_of : List ℕ → Geometry → Came → ℕ → Found
+abbrev pub secondary_of : List ℕ → Geometry → Came → ℕ → Option ℕ
 secondary_of m g a x = drive_of m g x
 
-abbrev pub source_drive : List ℕ → Geometry → Came → ℕ → Found
+abbrev pub source_drive : List ℕ → Geometry → Came → ℕ → Option ℕ
 source_drive m g a x = drive_of m g x
 
 -- "Marking writes the state byte alone"

@@ -1,6 +1,6 @@
 -- The case splits that proofs go by.
-use Rattle.std.specs.Prelude.{ℕ, suc, ◌≤◌, ◌<◌, Bool, true, false, cond, ◌≡◌, refl, ◌⊎◌, ltb, eqb}
-use Rattle.std.proofs.Common.{le_of_suc-le-suc, eq-or-lt_of_le, arith, sym, inl, inr, ⊎_elim, ltb-true, ltb-false, eqb-true}
+use Rattle.std.specs.Prelude.{ℕ, suc, ◌≤◌, ◌<◌, Bool, true, false, cond, ◌≡◌, refl, ◌⊎◌, ltb, eqb, Some, None, unwrap_or, is_none}
+use Rattle.std.proofs.Common.{true≢false, ap, le_of_suc-le-suc, eq-or-lt_of_le, arith, sym, inl, inr, ⊎_elim, ltb-true, ltb-false, eqb-true}
 use Rattle.std.proofs.lemmas.Bool.{eqb-false}
 
 pub either : (b : Bool) → (b ≡ true) ⊎ (b ≡ false)
@@ -31,3 +31,10 @@ pub agree : (a b : Bool) → (a ≡ true → b ≡ true) → (b ≡ true → a �
 agree true b to from = sym (to refl)
 agree false true to from = from refl
 agree false false to from = refl
+
+-- what two options hold is one where they are one, and nothing is not something
+pub some_same : {A : Type 0} (x y : A) → Some x ≡ Some y → x ≡ y
+some_same x y e = ap (λ o. unwrap_or o x) e
+
+pub none_apart : {A : Type 0} (y : A) → None ≡ Some y → ⊥
+none_apart y e = true≢false (ap is_none e)

@@ -1,10 +1,3 @@
-// Tests over the numbers below n, over lists and by cases: definitions and laws.
+// Tests over the numbers below n, over lists and by cases: definitions and laws. There is no code here.
 
 #![tactic(auto)]
-
-// What a search over numbers finds.
-#[derive(Clone, Copy)]
-pub enum Found {
-    At(usize),
-    Nothing,
-}

@@ -1,21 +1,18 @@
 -- Today's lists of checks beside 01's: each check says the same, but for the place where it is seen, and its answer is 01's bytes.
 use Prim.Native.Nat.{ℕ, zero, suc, ◌+◌}
-use Rattle.std.specs.Prelude.{Bool, List, [], ◌∷◌, map, ◌≡◌, ltb}
+use Rattle.std.specs.Prelude.{Bool, List, [], ◌∷◌, map, ◌≡◌, ltb, Option, Some, None, Ok, Err}
 use Rattle.std.proofs.Math.Bool.{true, false, cond}
 use Rattle.std.proofs.Math.Path.{refl, ap}
 use Rattle.std.proofs.Common.{◌∙◌}
 use Rattle.octets.specs.Number.{to_be}
-use Rattle.folds.specs.declared.Found.{Found}
-use Rattle.folds.specs.declared.Found.TheVariants.{At, Nothing}
 use Rattle.rules.specs.Rule.{Rule, rule, first}
 use Rattle.rules.proofs.Rule.{first_append}
 use Rattle.drives.specs.declared.Came.{Came}
 use Rattle.drives.specs.Table.{drive_of}
 use Rattle.sense.specs.Sense.{absent_sense, nested_sense}
 use Rattle.command.specs.Command.{source_of}
-use Rattle.meaning.specs.declared.Fault.{Fault}
-use Rattle.meaning.specs.declared.Fault.TheVariants.{Clear, Failed, Beyond}
-use Rattle.meaning.specs.Sources.{drive_bad, entry_bad, or_next, first_bad}
+use Rattle.meaning.specs.declared.Fault.TheVariants.{Failed, Beyond}
+use Rattle.meaning.specs.Sources.{Vetted, drive_bad, entry_bad, or_next, first_bad}
 use Rattle.meaning.specs.Checks.{Check}
 use Rattle.frozen.specs.Image as old
 use Rattle.frozen.specs.Answers as told
@@ -38,13 +35,13 @@ first_view v stop (rule n w false x ∷ rs) d = first_view v stop rs d
 -- ---- the source entries: 01's three checks of each, one after the other, are today's one check of the first that fails
 
 module _ {D : Type 0} (stop : ℕ → Unit {0} → told.Answer → D) (m : List ℕ) (h : old.Header) (n : ℕ) where
-  entry : (i b : ℕ) (x : Found) (f : Fault) (d : D) → first stop (was.entry_checks m h n b x) (by_fault stop m h n f d) ≡ by_fault stop m h n (or_next (drive_bad m (geo h) n i b x) f) d
+  entry : (i b : ℕ) (x : Option ℕ) (f : Vetted) (d : D) → first stop (was.entry_checks m h n b x) (by_fault stop m h n f d) ≡ by_fault stop m h n (or_next (drive_bad m (geo h) n i b x) f) d
   unfolding drive_bad absent_sense nested_sense to_be
-  entry i b Nothing f d = refl
-  entry i b (At k) f d = pick (old.failed m h k) (ltb h.B (b + n))
+  entry i b None f d = refl
+  entry i b (Some k) f d = pick (old.failed m h k) (ltb h.B (b + n))
     where
       pick : (p q : Bool) → cond p (stop 10 tt (told.nested 0x02 0x04)) (cond q (stop 10 tt (told.nested 0x05 0x21)) (by_fault stop m h n f d))
-          ≡ by_fault stop m h n (or_next (cond p (Failed i k) (cond q (Beyond i) Clear)) f) d
+          ≡ by_fault stop m h n (or_next (cond p (Err (Failed i k)) (cond q (Err (Beyond i)) (Ok tt))) f) d
       pick true q = refl
       pick false true = refl
       pick false false = refl

@@ -1,14 +1,13 @@
 -- "On any one image a 1994 code is proved to act as before." (02, A1): today's step is 01's for every call that is not 50h to 53h, and so
 -- are today's reset and marking for every call: answer, sense, byte count, image and receive room.
-use Rattle.std.specs.Prelude.{ℕ, Bool, true, false, not, ◌&&◌, cond, ◌≡◌, ltb, length, get_or}
+use Rattle.std.specs.Prelude.{ℕ, ◌/◌, Bool, true, false, not, ◌&&◌, cond, ◌≡◌, ltb, length, get_or, Option, is_none}
 use mathlib.Core.List.{List, [], ◌∷◌, ◌++◌, map}
-use Rattle.std.proofs.Math.Path.{refl, sym, ap}
+use Rattle.std.proofs.Math.Path.{refl, sym, ap, ap₂}
 use Rattle.std.proofs.Common.{◌∙◌}
 use Rattle.std.proofs.Math.Dec.{eqb}
 use Rattle.octets.specs.Put.{put}
 use Rattle.octets.specs.Xor.{◌⊻◌}
 use Rattle.octets.specs.Number.{be, to_be}
-use Rattle.folds.specs.declared.Found.{Found}
 use Rattle.rules.specs.Rule.{rule, first, AllPass}
 use Rattle.rules.proofs.Rule.{first_append, first_both, none_decides}
 use Rattle.folds.specs.Least.{index}
@@ -25,12 +24,12 @@ use Rattle.command.specs.declared.Op.{Op}
 use Rattle.command.specs.declared.Op.TheVariants.{XdWrite, XpWrite, XdRead, Rebuild, Regenerate, Read, Write, Unknown}
 use Rattle.command.specs.Command.{op_of_1994, sixteen_of, ten_of, listed_of, command_of, own_of, resolved_of, list_bytes, source_of}
 use Rattle.meaning.specs.declared.Span.{Span}
-use Rattle.meaning.specs.declared.Decision.{Decision}
-use Rattle.meaning.specs.declared.Decision.TheVariants.{Stop, Go}
+use Rattle.meaning.specs.Decision.{Decision, stop, go}
 use Rattle.meaning.specs.declared.Act.TheVariants.{XdRead as ToXdRead, Couple, Retain}
 use Rattle.meaning.specs.declared.Seen.TheVariants.{Dash}
 use Rattle.meaning.specs.Sources.{own_entry, first_bad}
 use Rattle.meaning.specs.Checks.{Check, calls, cdb_calls, known, fields, sends, idle, lists, ranges, busy, source_rules, checks, carried_out, decide_for, decide_of}
+use Rattle.meaning.specs.Acts.{mixed, passed_on}
 use Rattle.meaning.specs.Step.{answered, untouched, image_after, room_after, outcome_after, step_image, step_room, step_outcome, reset_answer, reset_image, mark_calls, mark_answer, mark_image}
 use Rattle.grants.specs.Granted.{granted_by}
 use Rattle.meaning.specs.Codes.{is_published, same_op}
@@ -40,7 +39,7 @@ use Rattle.frozen.specs.Answers as told
 use Rattle.frozen.specs.Commands as was
 use Rattle.frozen.specs.Step as signed
 use Rattle.frozen.specs.Order.{retain_order, couple_order}
-use Rattle.frozen.proofs.Alike.{released_alike, dropped_alike, newest_alike, gathered_alike}
+use Rattle.frozen.proofs.Alike.{bit_not, bit_either, released_alike, dropped_alike, newest_alike, gathered_alike}
 use Rattle.frozen.proofs.Judged.{valid_alike}
 use Rattle.frozen.specs.Lists.{bytes_of, forget, by_fault}
 use Rattle.frozen.proofs.Lists.{first_forget, first_view, sources_alike}
@@ -83,8 +82,8 @@ module _ (m : List ℕ) (a : ℕ) (c s r : List ℕ) where
       → (AllPass (checks o m (to a) c s (length r)) → view (carried_out o m (to a) c s) ≡ d) → first refuse us d ≡ signed.by_plan p m a c r → Same o p
   by_lists o p us d e k q =
       let rs = checks o m (to a) c s (length r) in
-      first_view view Stop rs (carried_out o m (to a) c s)
-      ∙ first_both (λ n w x. view (Stop n w x)) (λ n w x. view (Stop n w x)) ◌≡◌ rs (view (carried_out o m (to a) c s)) d (λ n w x. refl) k
+      first_view view stop rs (carried_out o m (to a) c s)
+      ∙ first_both (λ n w x. view (stop n w x)) (λ n w x. view (stop n w x)) ◌≡◌ rs (view (carried_out o m (to a) c s)) d (λ n w x. refl) k
       ∙ sym (first_forget refuse rs d)
       ∙ ap (λ (rs : List was.Check). first refuse rs d) e
       ∙ q
@@ -110,8 +109,8 @@ module _ (m : List ℕ) (a : ℕ) (c s r : List ℕ) where
       let p = was.xdread_from m h t c s (length r) in
       let i = index (then.newest m h t (was.block c)) in
       by_lists XdRead (was.xdread m h t c s (length r)) (ahead 10 ++ (was.xdread m h t c s (length r)).checks) (carry (was.xdread m h t c s (length r)).done)
-      (rw (valid_alike m) (ap (λ (x : Found). ahead 10 ++ (p x).checks) f))
-      (λ q. ap (λ (x : Found). view (Go (ToXdRead (span_at (was.block c) (was.count c)) (index x)) Good)) f
+      (rw (valid_alike m) (ap (λ (x : Option ℕ). ahead 10 ++ (p x).checks) f))
+      (λ q. ap (λ (x : Option ℕ). view (go (ToXdRead (span_at (was.block c) (was.count c)) (index x)) Good)) f
       ∙ ap (λ (x : List ℕ). carry (record { image = x; hands = (p (then.newest m h t (was.block c))).done.hands })) (released_alike h m i))
       refl
 
@@ -120,7 +119,7 @@ module _ (m : List ℕ) (a : ℕ) (c s r : List ℕ) where
   unfolding slot_of slot_at place drive_of empty_slot slots.bytes_of sixteen_of no_sense plain_sense absent_sense nested_sense to_be
   xdwrite =
       by_lists XdWrite (was.xdwrite m h t c s) (ahead 16 ++ (was.xdwrite m h t c s).checks) (carry (was.xdwrite m h t c s).done) (rw (valid_alike m))
-      (λ p. pick (eqb (was.sec_ctl c) 3) (none_decides Stop (checks XdWrite m (to a) c s (length r)) (carried_out XdWrite m (to a) c s) p))
+      (λ p. pick (eqb (was.sec_ctl c) 3) (none_decides stop (checks XdWrite m (to a) c s (length r)) (carried_out XdWrite m (to a) c s) p))
       refl
     where
       x : Span
@@ -132,15 +131,35 @@ module _ (m : List ℕ) (a : ℕ) (c s r : List ℕ) where
       i : ℕ
       i = index (then.empty_slot m h)
 
-      pick : (b : Bool) → decide_for XdWrite m (to a) c s (length r) ≡ cond b (Go (Retain x i (was.mirror c) (was.ndisc c)) Good) (Go (Couple x y (was.mirror c)) Good)
-          → view (cond b (Go (Retain x i (was.mirror c) (was.ndisc c)) Good) (Go (Couple x y (was.mirror c)) Good))
+      mirror : Bool
+      mirror = eqb (was.mirror c) 1
+
+      ndisc : Bool
+      ndisc = eqb (was.ndisc c) 1
+
+      -- the result, and what it goes to the secondary as
+      its : mixed mirror s (old.blocks m h t (was.block c) (was.many c)) ≡ was.result m h t c s
+      its = bit_either (get_or c 1 0 / 64) s (s ⊻ old.blocks m h t (was.block c) (was.many c))
+
+      passed : passed_on m g x y mirror s
+          ≡ cond (eqb (was.mirror c) 0) (old.blocks m h (index (was.second m h t c s)) (be 4 c 11) (was.many c) ⊻ was.result m h t c s) (was.result m h t c s)
+      passed =
+          ap₂ (λ (b : Bool) (z : List ℕ). cond b (old.blocks m h (index (was.second m h t c s)) (be 4 c 11) (was.many c) ⊻ z) z) (sym (bit_not (get_or c 1 0 / 64))) its
+
+      pick : (b : Bool) → decide_for XdWrite m (to a) c s (length r) ≡ cond b (go (Retain x i mirror ndisc) Good) (go (Couple x y mirror) Good)
+          → view (cond b (go (Retain x i mirror ndisc) Good) (go (Couple x y mirror) Good))
           ≡ carry (cond b (was.leaves (was.to_slot m h t c s)) (was.leaves (was.to_second m h t c s)))
       pick true e =
-          let f = granted_by XdWrite m (to a) c s (length r) (Retain x i (was.mirror c) (was.ndisc c)) Good e in
-          ap (λ (z : List ℕ). carry (was.leaves z)) (retain_order m g f.valid s (length r) x i (was.mirror c) (was.ndisc c) f.allowed)
+          let f = granted_by XdWrite m (to a) c s (length r) (Retain x i mirror ndisc) Good e in
+          let there = put m (old.block_at h t (was.block c)) s in
+          ap (λ (z : List ℕ). carry (was.leaves z))
+          (retain_order m g f.valid s (length r) x i mirror ndisc f.allowed
+          ∙ ap₂ (λ (o z : List ℕ). then.retained_over o m h i 1 t (was.block c) (was.many c) z) (bit_either (get_or c 1 0 / 32) m there) its)
       pick false e =
-          let f = granted_by XdWrite m (to a) c s (length r) (Couple x y (was.mirror c)) Good e in
-          ap (λ (z : List ℕ). carry (was.leaves z)) (couple_order m g f.valid s (length r) x y (was.mirror c) f.allowed)
+          let f = granted_by XdWrite m (to a) c s (length r) (Couple x y mirror) Good e in
+          ap (λ (z : List ℕ). carry (was.leaves z))
+          (couple_order m g f.valid s (length r) x y mirror f.allowed
+          ∙ ap (put (put m (old.block_at h t (was.block c)) s) (old.block_at h (index (was.second m h t c s)) (be 4 c 11))) passed)
 
   -- REBUILD and REGENERATE: the checks in front of the source entries' are alike, and then those
   abbrev before : Op → List Check
@@ -162,30 +181,45 @@ module _ (m : List ℕ) (a : ℕ) (c s r : List ℕ) where
   entries = was.source_checks m h s n 0 (was.sources s)
 
   by_entries : (rs : List Check) (us : List was.Check) (d : Decision) (e : signed.Outcome) → map forget rs ≡ us → view d ≡ e
-      → view (first Stop (rs ++ source_rules (first_bad m g (to a) s n 0 (was.sources s))) d) ≡ first refuse (us ++ entries) e
+      → view (first stop (rs ++ source_rules (first_bad m g (to a) s n 0 (was.sources s))) d) ≡ first refuse (us ++ entries) e
   by_entries rs us d e p q =
       let f = first_bad m g (to a) s n 0 (was.sources s) in
-      first_view view Stop (rs ++ source_rules f) d
-      ∙ first_append (λ k w x. view (Stop k w x)) rs (source_rules f) (view d)
+      first_view view stop (rs ++ source_rules f) d
+      ∙ first_append (λ k w x. view (stop k w x)) rs (source_rules f) (view d)
       ∙ sym (first_forget refuse rs (by_fault refuse m h n f (view d)))
       ∙ ap (λ (xs : List was.Check). first refuse xs (by_fault refuse m h n f (view d))) p
       ∙ ap (first refuse us) (sym (sources_alike refuse m h n (to a) s 0 (was.sources s) (view d)))
       ∙ sym (first_append refuse us entries (view d))
       ∙ ap (first refuse (us ++ entries)) q
 
+  -- the bit that says whether Int Data is sent, whichever it is
+  by_int : (P : Type 0) → ((b : Bool) → eqb (was.int c) 1 ≡ b → eqb (was.int c) 0 ≡ not b → P) → P
+  by_int P f = f (eqb (was.int c) 1) refl (bit_not (get_or c 1 0 / 4))
+
   rebuild : Same Rebuild (was.rebuild m h t c s)
   unfolding slot_of slot_at place drive_of listed_of own_of resolved_of list_bytes source_of own_entry no_sense plain_sense to_be
   rebuild =
       by_entries (before Rebuild) (ahead 10 ++ was.list_checks m h t c s (not (eqb (was.int c) 0) && eqb (be 4 c 2) 0xFFFFFFFF)) (carried_out Rebuild m (to a) c s)
-      (carry (was.rebuild m h t c s).done) (rw (valid_alike m))
+      (carry (was.rebuild m h t c s).done) (by_int _ pick)
       (ap (λ (x : List ℕ). carry (was.leaves (put m (old.block_at h t (was.own s)) x))) (gathered_alike m h (to a) s n c))
+    where
+      pick : (b : Bool) → eqb (was.int c) 1 ≡ b → eqb (was.int c) 0 ≡ not b
+          → map forget (before Rebuild) ≡ ahead 10 ++ was.list_checks m h t c s (not (eqb (was.int c) 0) && eqb (be 4 c 2) 0xFFFFFFFF)
+      pick true p q = rw (valid_alike m, p, q)
+      pick false p q = rw (valid_alike m, p, q)
 
   regenerate : Same Regenerate (was.regenerate m h t c s)
   unfolding slot_of slot_at place drive_of empty_slot slots.bytes_of listed_of own_of resolved_of list_bytes source_of own_entry no_sense plain_sense to_be
   regenerate =
-      by_entries (before Regenerate) (ahead 10 ++ was.list_checks m h t c s (ltb h.M (be 4 c 2)) ++ was.check 9 (was.is_nothing (then.empty_slot m h)) told.busy ∷ [])
-      (carried_out Regenerate m (to a) c s) (carry (was.regenerate m h t c s).done) (rw (valid_alike m))
+      by_entries (before Regenerate) (ahead 10 ++ was.list_checks m h t c s (ltb h.M (be 4 c 2)) ++ was.check 9 (is_none (then.empty_slot m h)) told.busy ∷ [])
+      (carried_out Regenerate m (to a) c s) (carry (was.regenerate m h t c s).done) (by_int _ pick)
       (ap (λ (x : List ℕ). carry (was.leaves (then.retained_over m m h (index (then.empty_slot m h)) 2 t (was.own s) n (old.blocks m h t (was.own s) n ⊻ x)))) (gathered_alike m h (to a) s n c))
+    where
+      pick : (b : Bool) → eqb (was.int c) 1 ≡ b → eqb (was.int c) 0 ≡ not b
+          → map forget (before Regenerate)
+          ≡ ahead 10 ++ was.list_checks m h t c s (ltb h.M (be 4 c 2)) ++ was.check 9 (is_none (then.empty_slot m h)) told.busy ∷ []
+      pick true p q = rw (valid_alike m, p, q)
+      pick false p q = rw (valid_alike m, p, q)
 
   -- "Code | Command": by 01's table alone
   line : (b : Bool) (o o' : Op) (p p' : was.Plan) → Same o p → Same o' p' → Same (cond b o o') (cond b p p')

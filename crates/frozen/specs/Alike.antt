@@ -1,4 +1,6 @@
 -- 01's header, and what its search finds, as today's definitions have them.
+use Rattle.std.specs.Prelude.{Option}
+use Rattle.std.specs.Option.{option_map}
 use Rattle.geometry.specs.declared.Geometry.{Geometry}
 use Rattle.slots.specs.declared.Best.{Best}
 use Rattle.frozen.specs.Image as old
@@ -9,5 +11,5 @@ use Rattle.frozen.specs.Results as then
 abbrev pub geo : old.Header → Geometry
 geo h = record { d = h.D; b = h.B; l = h.L; s = h.S; m = h.M; table = h.table; slots = h.slots; media = h.media }
 
-abbrev pub best_to : then.Best → Best
-best_to x = record { top = x.top; found = x.found }
+abbrev pub best_to : then.Best → Option Best
+best_to x = option_map (λ i. record { slot = i; rank = x.top }) x.found

@@ -1,14 +1,12 @@
 -- 01, "Commands", with checks 4 to 11 of each: what is looked at, byte by byte, and what is done where no check applies. m is the image, h
 -- its header, t the target's index, c the CDB, s the data-out bytes, r the receive room's length.
-use Rattle.std.specs.Prelude.{ℕ, zero, suc, ◌+◌, ◌*◌, ◌-◌, ◌/◌, ◌%◌, Bool, true, false, not, ◌&&◌, cond, List, [], ◌∷◌, ◌++◌, leb, ltb, eqb, length, get_or}
+use Rattle.std.specs.Prelude.{ℕ, zero, suc, ◌+◌, ◌*◌, ◌-◌, ◌/◌, ◌%◌, Bool, false, not, ◌&&◌, cond, List, [], ◌∷◌, ◌++◌, leb, ltb, eqb, length, get_or, Option, Some, None, is_none}
 use Rattle.std.specs.Int.Bits.{bit_and}
 use Rattle.octets.specs.Part.{part}
 use Rattle.octets.specs.Put.{put}
 use Rattle.octets.specs.Xor.{◌⊻◌}
 use Rattle.octets.specs.Operands.{xor_all}
 use Rattle.octets.specs.Number.{be}
-use Rattle.folds.specs.declared.Found.{Found}
-use Rattle.folds.specs.declared.Found.TheVariants.{At, Nothing}
 use Rattle.rules.specs.Rule.{Rule, rule}
 use Rattle.folds.specs.Least.{least_below, index}
 use Rattle.frozen.specs.Image.{Header, slot_at, block_at, blocks, failed, drive_of, slot}
@@ -24,14 +22,10 @@ Check = Rule (Unit {0}) Answer
 abbrev pub check : ℕ → Bool → Answer → Check
 check n b x = rule n tt b x
 
-abbrev pub is_nothing : Found → Bool
-is_nothing (At i) = false
-is_nothing Nothing = true
-
 -- the lookup gives drive t
-abbrev pub is_at : ℕ → Found → Bool
-is_at t (At i) = eqb i t
-is_at t Nothing = false
+abbrev pub is_at : ℕ → Option ℕ → Bool
+is_at t (Some i) = eqb i t
+is_at t None = false
 
 -- 4. "05h/24h/00h", 8. "05h/21h/00h"
 abbrev pub bad_field : Answer
@@ -115,14 +109,14 @@ module _ (m : List ℕ) (h : Header) (t : ℕ) (c s : List ℕ) (r : ℕ) where
 
   -- "XDREAD: the associated result is the newest retained on that drive with that block number. Its bytes go to the receive room's front
   -- and it is no longer retained. If its length differs, refused, even where an older one fits."
-  abbrev pub xdread_from : Found → Plan
+  abbrev pub xdread_from : Option ℕ → Plan
   xdread_from f =
       plan 10
       (zero_bits 0xFF c
       ∷ zero_byte 6 c
       ∷ zero_byte 9 c
       ∷ sends 0 s
-      ∷ check 8 (is_nothing f) bad_field
+      ∷ check 8 (is_none f) bad_field
       ∷ check 8 (not (eqb (slot m h (index f)).len (count c))) bad_field
       ∷ room_for (count c * h.L) r
       ∷ [])
@@ -147,7 +141,7 @@ abbrev pub sec_ctl : List ℕ → ℕ
 sec_ctl c = get_or c 1 0 / 2 % 4
 
 module _ (m : List ℕ) (h : Header) (t : ℕ) (c s : List ℕ) where
-  abbrev pub second : Found
+  abbrev pub second : Option ℕ
   second = drive_of m h (be 3 c 8)
 
   -- Sec Ctl 00 or 10: "The secondary fields are ignored when Sec Ctl is 11."
@@ -184,9 +178,9 @@ module _ (m : List ℕ) (h : Header) (t : ℕ) (c s : List ℕ) where
       ∷ idle (many c)
       ∷ range h (block c) (many c)
       -- 9. "Something to retain and no empty slot: BUSY."
-      ∷ check 9 (eqb (sec_ctl c) 3 && is_nothing (empty_slot m h)) busy
+      ∷ check 9 (eqb (sec_ctl c) 3 && is_none (empty_slot m h)) busy
       -- 10. "Nested: the secondary ..; address, then failed drive, then range."
-      ∷ check 10 (coupled && is_nothing second) absent
+      ∷ check 10 (coupled && is_none second) absent
       ∷ check 10 (coupled && failed m h (index second)) (nested 0x02 0x04)
       ∷ check 10 (coupled && ltb h.B (be 4 c 11 + many c)) (nested 0x05 0x21)
       ∷ [])
@@ -224,9 +218,9 @@ resolved c s h = cond (eqb (be 4 c 2) 0xFFFFFFFF) (cond (leb h.B (own s)) (be 4 
 
 -- 10. "for one entry, address, then failed drive, then range", of n blocks; "the first source entry in list order that fails decides": the
 -- entries left, from entry i on
-abbrev pub entry_checks : List ℕ → Header → ℕ → ℕ → Found → List Check
+abbrev pub entry_checks : List ℕ → Header → ℕ → ℕ → Option ℕ → List Check
 entry_checks m h n b d =
-    check 10 (is_nothing d) absent ∷ check 10 (failed m h (index d)) (nested 0x02 0x04) ∷ check 10 (ltb h.B (b + n)) (nested 0x05 0x21) ∷ []
+    check 10 (is_none d) absent ∷ check 10 (failed m h (index d)) (nested 0x02 0x04) ∷ check 10 (ltb h.B (b + n)) (nested 0x05 0x21) ∷ []
 
 unfoldable pub source_checks : List ℕ → Header → List ℕ → ℕ → ℕ → ℕ → List Check
 source_checks m h s n i zero = []
@@ -249,7 +243,7 @@ abbrev pub gathered : List ℕ → Header → List ℕ → List ℕ → ℕ → 
 gathered m h c s n = xor_all (operands_from m h s n 0 (sources s) ++ int_data h c s n)
 
 module _ (m : List ℕ) (h : Header) (t : ℕ) (c s : List ℕ) where
-  abbrev pub own_entry : Found
+  abbrev pub own_entry : Option ℕ
   own_entry = least_below (sources s) (λ i. is_at t (drive_of m h (source_address s i)))
 
   -- checks 4 to 8; what is refused of lengths in check 4 differs
@@ -272,7 +266,7 @@ module _ (m : List ℕ) (h : Header) (t : ℕ) (c s : List ℕ) where
       ∷ check 7 (eqb (sources s) 0) (refusal 0x05 0x26)
       ∷ check 7 (not (eqb (get_or s 1 0) 1)) (refusal 0x05 0x26)
       ∷ check 7 (not (eqb (be 2 s 2) 0)) (refusal 0x05 0x26)
-      ∷ check 7 (not (is_nothing own_entry)) (refusal 0x05 0x26)
+      ∷ check 7 (not (is_none own_entry)) (refusal 0x05 0x26)
       ∷ check 7 (eqb (be 4 c 2) 0) good
       ∷ range h (own s) (resolved c s h)
       ∷ []
@@ -288,7 +282,7 @@ module _ (m : List ℕ) (h : Header) (t : ℕ) (c s : List ℕ) where
   abbrev pub regenerate : Plan
   regenerate =
       plan 10
-      (list_checks (ltb h.M (be 4 c 2)) ++ check 9 (is_nothing (empty_slot m h)) busy ∷ source_checks m h s (resolved c s h) 0 (sources s))
+      (list_checks (ltb h.M (be 4 c 2)) ++ check 9 (is_none (empty_slot m h)) busy ∷ source_checks m h s (resolved c s h) 0 (sources s))
       (leaves
       (retained_over m m h (index (empty_slot m h)) 2 t (own s) (resolved c s h)
       (blocks m h t (own s) (resolved c s h) ⊻ gathered m h c s (resolved c s h))))

@@ -1,8 +1,7 @@
 -- 01, "The image: counts, then offsets". All numbers are big-endian; m is the image, h its header.
-use Rattle.std.specs.Prelude.{ℕ, ◌+◌, ◌*◌, ◌%◌, Bool, not, cond, List, [], ◌∷◌, leb, ltb, eqb, length, get_or}
+use Rattle.std.specs.Prelude.{ℕ, ◌+◌, ◌*◌, ◌%◌, Bool, not, cond, List, [], ◌∷◌, leb, ltb, eqb, length, get_or, Option}
 use Rattle.octets.specs.Part.{part}
 use Rattle.octets.specs.Number.{be}
-use Rattle.folds.specs.declared.Found.{Found}
 use Rattle.folds.specs.Every.{every}
 use Rattle.folds.specs.All.{all_below}
 use Rattle.folds.specs.Count.{count_below}
@@ -58,7 +57,7 @@ abbrev pub address : List ℕ → Header → ℕ → ℕ
 address m h i = be 3 m (entry_at h i + 1)
 
 -- the drive with an address
-abbrev pub drive_of : List ℕ → Header → ℕ → Found
+abbrev pub drive_of : List ℕ → Header → ℕ → Option ℕ
 drive_of m h a = least_below h.D (λ i. eqb (address m h i) a)
 
 -- ---- the slots

@@ -1,15 +1,13 @@
 -- Results come and go (01, "The image" and "Commands"). m is the image, h its header.
-use Rattle.std.specs.Prelude.{ℕ, zero, suc, ◌+◌, ◌-◌, Bool, not, cond, List, [], ◌∷◌, ◌++◌, ltb, eqb, replicate}
+use Rattle.std.specs.Prelude.{ℕ, zero, suc, ◌+◌, ◌-◌, Bool, not, cond, List, [], ◌∷◌, ◌++◌, ltb, eqb, replicate, Option, Some, None}
 use Rattle.octets.specs.Put.{put}
 use Rattle.octets.specs.Number.{to_be}
-use Rattle.folds.specs.declared.Found.{Found}
-use Rattle.folds.specs.declared.Found.TheVariants.{At, Nothing}
 use Rattle.folds.specs.Every.{every}
 use Rattle.folds.specs.Least.{least_below}
 use Rattle.frozen.specs.Image.{Header, slot_at, Slot, slot, used, used_count}
 
 -- "A new result takes the lowest-numbered empty slot"
-abbrev pub empty_slot : List ℕ → Header → Found
+abbrev pub empty_slot : List ℕ → Header → Option ℕ
 empty_slot m h = least_below h.S (λ i. not (used (slot m h i)))
 
 -- "and rank k+1; its bytes fill the front of the slot, the rest stays": a result of n blocks of drive d from block b on, of a kind
@@ -26,16 +24,16 @@ wanted d b r = every (used r ∷ eqb r.drive d ∷ eqb r.block b ∷ [])
 
 pub record Best : Type 0 where
   pub top : ℕ
-  pub found : Found
+  pub found : Option ℕ
 
 abbrev pub better : ℕ → ℕ → Best → ℕ → Slot → Best
-better d b x i r = cond (every (wanted d b r ∷ ltb x.top r.rank ∷ [])) (record { top = r.rank; found = At i }) x
+better d b x i r = cond (every (wanted d b r ∷ ltb x.top r.rank ∷ [])) (record { top = r.rank; found = Some i }) x
 
 unfoldable pub best_of : List ℕ → Header → ℕ → ℕ → ℕ → Best
-best_of m h d b zero = record { top = 0; found = Nothing }
+best_of m h d b zero = record { top = 0; found = None }
 best_of m h d b (suc n) = better d b (best_of m h d b n) n (slot m h n)
 
-abbrev pub newest : List ℕ → Header → ℕ → ℕ → Found
+abbrev pub newest : List ℕ → Header → ℕ → ℕ → Option ℕ
 newest m h d b = (best_of m h d b h.S).found
 
 -- "When a result goes, its record is zeroed, its data left, and higher ranks fall by one.": in each of the first n slots

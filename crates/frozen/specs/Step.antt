@@ -1,12 +1,12 @@
 -- 01's step, reset and marking: the first check that applies decides, and "No refusal changes image or receive room."
-use Rattle.std.specs.Prelude.{ℕ, not, ◌&&◌, List, [], ◌∷◌, ◌++◌, ltb, eqb, length, get_or}
+use Rattle.std.specs.Prelude.{ℕ, not, ◌&&◌, List, [], ◌∷◌, ◌++◌, ltb, eqb, length, get_or, is_none}
 use Rattle.octets.specs.Put.{put}
 use Rattle.rules.specs.Rule.{first}
 use Rattle.folds.specs.Least.{index}
 use Rattle.frozen.specs.Image.{Header, header_of, entry_at, failed, drive_of, valid}
 use Rattle.frozen.specs.Results.{dropped}
 use Rattle.frozen.specs.Answers.{Answer, good, call, refusal}
-use Rattle.frozen.specs.Commands.{Check, check, is_nothing, Done, Plan, command_of}
+use Rattle.frozen.specs.Commands.{Check, check, Done, Plan, command_of}
 
 -- what a call comes to: the answer, the byte count, the image and the receive room
 pub record Outcome : Type 0 where
@@ -17,7 +17,7 @@ pub record Outcome : Type 0 where
 
 -- 1. "Calls 1, 2, 3 in that order.": "1 image not valid; 2 no such target"
 abbrev pub calls : List ℕ → ℕ → List Check
-calls m a = check 1 (not (valid m)) (call 1) ∷ check 1 (is_nothing (drive_of m (header_of m) a)) (call 2) ∷ []
+calls m a = check 1 (not (valid m)) (call 1) ∷ check 1 (is_none (drive_of m (header_of m) a)) (call 2) ∷ []
 
 -- "3 CDB empty, or a known code with another length"; 2. "Unknown code: 05h/20h/00h." 3. "Target failed: 02h/04h/00h."
 abbrev pub known : List ℕ → Header → ℕ → ℕ → List ℕ → List Check

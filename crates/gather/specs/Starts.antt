@@ -7,31 +7,11 @@ use Rattle.std.proofs.Math.Logic.{⊎_elim}
 use mathlib.Core.List.{List}
 use Rattle.std.proofs.Math.ListN.{set, length-set}
 use Rattle.std.proofs.Math.Seq.{get_or-set_other}
-use Rattle.folds.specs.declared.Found.{Found}
 use Rattle.folds.specs.Cases.{last_or_below}
-use Rattle.folds.specs.Least.{index}
 use Rattle.geometry.specs.declared.Geometry.{Geometry}
-use Rattle.geometry.specs.Header.{place}
 use Rattle.drives.specs.declared.Came.{Came}
-use Rattle.drives.specs.Table.{source_drive}
-use Rattle.command.specs.declared.Source.{Source}
 use Rattle.command.specs.Command.{source_of}
-use Rattle.meaning.specs.Acts.{home_of, start_of}
-use Rattle.gather.specs.Job.{Named, Listed}
-
--- one source
-module _ (s : List ℕ) (g : Geometry) (a : Came) (x : Source) (f : Found) (d : ℕ) (fe : f ≡ source_drive s g a x.address.0) (de : d ≡ index f) where
-  home_by : d ≡ home_of s g a x
-  home_by = de ∙ ap index fe
-
-  pub drive_by : home_of s g a x < g.d → d < g.d
-  drive_by h = omega (arith, home_by)
-
-  pub start_by : (p : ℕ) → p ≡ place g d x.block.0 → p ≡ start_of s g a x
-  start_by p e = e ∙ ap (λ (i : ℕ). place g i x.block.0) home_by
-
-pub entry_named : (s : List ℕ) (g : Geometry) (a : Came) (sent : List ℕ) (n i : ℕ) (x : Source) → Listed s g a sent n → i < n → x ≡ source_of sent i → Named s g a x
-entry_named s g a sent n i x h l e = rw e (h.each i l)
+use Rattle.meaning.specs.Acts.{start_of}
 
 -- the first n of them, written over a list
 module _ (s : List ℕ) (g : Geometry) (a : Came) (sent : List ℕ) where
@@ -43,9 +23,9 @@ module _ (s : List ℕ) (g : Geometry) (a : Came) (sent : List ℕ) where
   unfolding starts_over
   starts_none xs = refl
 
-  pub starts_more : (xs ys : List ℕ) (n p : ℕ) (x : Source) → ys ≡ starts_over xs n → x ≡ source_of sent n → p ≡ start_of s g a x → set ys n p ≡ starts_over xs (n + 1)
+  pub starts_more : (xs ys : List ℕ) (n p : ℕ) → ys ≡ starts_over xs n → p ≡ start_of s g a (source_of sent n) → set ys n p ≡ starts_over xs (n + 1)
   unfolding starts_over
-  starts_more xs ys n p x e xe pe = rw (add-one n) (ap₂ (λ (zs : List ℕ) (q : ℕ). set zs n q) e (pe ∙ ap (start_of s g a) xe))
+  starts_more xs ys n p e pe = rw (add-one n) (ap₂ (λ (zs : List ℕ) (q : ℕ). set zs n q) e pe)
 
   pub starts_done : (xs ys : List ℕ) (n i : ℕ) → ys ≡ starts_over xs i → i ≤ n → n ≤ i → ys ≡ starts_over xs n
   starts_done xs ys n i e h l = let q : i ≡ n = omega arith in e ∙ ap (starts_over xs) q

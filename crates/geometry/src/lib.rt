@@ -5,20 +5,21 @@
 
 #![tactic(auto)]
 
-ghost use Rattle.std.specs.Prelude.{◌≡◌, ◌+◌, ◌*◌, ◌<◌, ◌≤◌, length};
+ghost use Rattle.std.specs.Prelude.{◌≡◌, ◌+◌, ◌*◌, ◌<◌, ◌≤◌, true, false, length, MatchOption};
 ghost use Rattle.geometry.specs.Header.{geometry_of, ranges_ok, offsets_ok, framed_ok, end_of, entry_at, slot_at, place};
-ghost use Rattle.geometry.specs.Frame.{InRange, Placed};
+ghost use Rattle.geometry.specs.Frame.{InRange, Placed, Framed};
 
 // A drive's address, and a block number: both are four bytes in a source entry, and neither can
 // stand where the other is due.
-#[derive(Clone, Copy)]
+#[derive(Clone, Copy, PartialEq, Eq)]
 pub struct Address(pub usize);
 
-#[derive(Clone, Copy)]
+#[derive(Clone, Copy, PartialEq, Eq)]
 pub struct Block(pub usize);
 
 // The header's eight fields, named after 01: D drives of B blocks of L bytes, S slots of M blocks,
-// and where the drive table, the slots and the media start.
+// and where the drive table, the slots and the media start. `geometry_of` makes one of any 32 bytes, so
+// that its places are apart is no part of the type: `Frame` has that, and `Placed` says it.
 #[derive(Clone, Copy)]
 pub struct Geometry {
     pub d: usize,
@@ -29,6 +30,36 @@ pub struct Geometry {
     pub table: usize,
     pub slots: usize,
     pub media: usize,
+}
+
+// A shelf's image with its header by value: the image is framed as the header says.
+#[derive(Clone, Copy)]
+pub struct Frame<'a> {
+    pub image: &'a [u8],
+    pub g: Geometry,
+    pub ghost framed: { Framed image.now g },
+}
+
+impl Frame<'_> {
+    // The image with its header, where it is as long as its header says.
+    pub fn of(image: &[u8]) -> Option<Frame<'_>>
+        ensures { MatchOption result (framed_ok image.now ≡ false) (λ f. (framed_ok image.now ≡ true) × (f.image ≡ image.entry) × (f.g ≡ geometry_of image.now)) }
+    {
+        if image.len() < 32 {
+            return None;
+        }
+        let g = Geometry::read(image);
+        if !g.ranges_ok() {
+            return None;
+        }
+        if !g.offsets_ok() {
+            return None;
+        }
+        if image.len() != g.end() {
+            return None;
+        }
+        Some(Frame { image, g })
+    }
 }
 
 // How many bytes of the table each drive has.
@@ -43,14 +74,14 @@ impl Geometry {
         ensures { result ≡ geometry_of image.now }
     {
         Geometry {
-            d: octets::be4(image, 0),
-            b: octets::be4(image, 4),
-            l: octets::be4(image, 8),
-            s: octets::be4(image, 12),
-            m: octets::be4(image, 16),
-            table: octets::be4(image, 20),
-            slots: octets::be4(image, 24),
-            media: octets::be4(image, 28),
+            d: octets::be::<4>(image, 0),
+            b: octets::be::<4>(image, 4),
+            l: octets::be::<4>(image, 8),
+            s: octets::be::<4>(image, 12),
+            m: octets::be::<4>(image, 16),
+            table: octets::be::<4>(image, 20),
+            slots: octets::be::<4>(image, 24),
+            media: octets::be::<4>(image, 28),
         }
     }
 
@@ -58,20 +89,16 @@ impl Geometry {
     fn ranges_ok(self) -> bool
         ensures { result ≡ ranges_ok self }
     {
-        let d = self.d;
-        let b = self.b;
-        let l = self.l;
-        let m = self.m;
-        (2 <= d)
-            & (d <= 32)
-            & (1 <= b)
-            & (b <= 65536)
-            & (4 <= l)
-            & (l <= 4096)
-            & (l % 4 == 0)
+        (2 <= self.d)
+            & (self.d <= 32)
+            & (1 <= self.b)
+            & (self.b <= 65536)
+            & (4 <= self.l)
+            & (self.l <= 4096)
+            & (self.l % 4 == 0)
             & (self.s <= 16)
-            & (1 <= m)
-            & (m <= 256)
+            & (1 <= self.m)
+            & (self.m <= 256)
     }
 
     fn offsets_ok(self) -> bool
@@ -115,24 +142,4 @@ impl Geometry {
     {
         self.media + (drive * self.b + block.0) * self.l
     }
-}
-
-// Is the image as long as its header says?
-pub fn framed(image: &[u8]) -> bool
-    ensures { result ≡ framed_ok image.now }
-{
-    if image.len() < 32 {
-        return false;
-    }
-    let g = Geometry::read(image);
-    if !g.ranges_ok() {
-        return false;
-    }
-    if !g.offsets_ok() {
-        return false;
-    }
-    if image.len() != g.end() {
-        return false;
-    }
-    true
 }

@@ -1,5 +1,5 @@
 -- GOOD without an act is check 6 or check 7: "GOOD for zero length", "list length zero", "Then GOOD for length 0".
-use Rattle.std.specs.Prelude.{ℕ, Bool, true, false, cond, not, List, [], ◌∷◌, ◌++◌, map, ◌≡◌, ◌⊎◌, eqb, get_or}
+use Rattle.std.specs.Prelude.{ℕ, Bool, true, false, cond, not, List, [], ◌∷◌, ◌++◌, map, ◌≡◌, ◌⊎◌, eqb, get_or, Ok, Err, is_err, Option, Some, None}
 use Rattle.std.proofs.Common.{arith, sym, ap, ◌∙◌, inl, inr, eqb-true}
 use Rattle.std.proofs.Math.Path.{refl}
 use Rattle.std.proofs.Math.ListN.{get_or-map}
@@ -15,14 +15,14 @@ use Rattle.sense.specs.Answers.{number_of}
 use Rattle.command.specs.declared.Op.{Op}
 use Rattle.command.specs.declared.Command.{Command}
 use Rattle.command.specs.declared.Layout.{Layout}
-use Rattle.command.specs.declared.Layout.TheVariants.{Sixteen, Ten, ByList, NoLayout}
+use Rattle.command.specs.declared.Layout.TheVariants.{Sixteen, Ten, ByList}
 use Rattle.command.specs.Command.{Limit, UpToM, NotToEnd, NoLimit, Moves, DataSent, ListSent, HandedOut, Exchanged, NoBytes, Works, OnBlocks, OnResult, Keeping, Always, WithEleven, Never, has, op_of, command_of}
-use Rattle.meaning.specs.declared.Fault.{Fault}
-use Rattle.meaning.specs.declared.Fault.TheVariants.{Clear, Absent, Failed, Beyond}
+use Rattle.meaning.specs.Sources.{Vetted}
+use Rattle.meaning.specs.declared.Fault.TheVariants.{Absent, Failed, Beyond}
 use Rattle.meaning.specs.declared.Seen.{Seen}
 use Rattle.meaning.specs.declared.Seen.TheVariants.{Dash}
-use Rattle.meaning.specs.declared.Decision.TheVariants.{Stop}
-use Rattle.meaning.specs.Checks.{Check, fields_by, idle_by, lists_by, ranges_by, busy_by, nested_by, rooms_by, is_fault, fault_answer, command_checks, checks_for, checks, decide_of}
+use Rattle.meaning.specs.Decision.{stop}
+use Rattle.meaning.specs.Checks.{Check, fields_by, idle_by, lists_by, ranges_by, busy_by, nested_by, rooms_by, fault_answer, command_checks, checks_for, checks, decide_of}
 use Rattle.grants.specs.Why.{why}
 use Rattle.grants.specs.Good.{fine, all_fine}
 
@@ -36,41 +36,41 @@ both [] rs h k = k
 both (q ∷ qs) rs h k = next (fine q) _ _ (λ e. both qs rs e k) h
 
 -- of the sources
-pub fault_fine : (f : Fault) → cond (eqb (number_of (fault_answer f)) 0) (not (is_fault f)) true ≡ true
-fault_fine Clear = refl
-fault_fine (Absent i) = refl
-fault_fine (Failed i k) = refl
-fault_fine (Beyond i) = refl
+pub fault_fine : (f : Vetted) → cond (eqb (number_of (fault_answer f)) 0) (not (is_err f)) true ≡ true
+fault_fine (Ok u) = refl
+fault_fine (Err (Absent i)) = refl
+fault_fine (Err (Failed i k)) = refl
+fault_fine (Err (Beyond i)) = refl
 
 -- stage by stage, check 5 with check 6
 module _ (o : Op) (m : List ℕ) (g : Geometry) (t : ℕ) (k : Command) (s : List ℕ) (r : ℕ) where
-  fields_fine : (l : Layout) (x : Limit) → all_fine (fields_by l x o m g t k) ≡ true
+  fields_fine : (l : Option Layout) (x : Limit) → all_fine (fields_by l x o m g t k) ≡ true
   unfolding all_fine every
-  fields_fine Sixteen UpToM = refl
-  fields_fine Sixteen NotToEnd = refl
-  fields_fine Sixteen NoLimit = refl
-  fields_fine Ten UpToM = refl
-  fields_fine Ten NotToEnd = refl
-  fields_fine Ten NoLimit = refl
-  fields_fine ByList UpToM = refl
-  fields_fine ByList NotToEnd = refl
-  fields_fine ByList NoLimit = refl
-  fields_fine NoLayout x = refl
+  fields_fine (Some Sixteen) UpToM = refl
+  fields_fine (Some Sixteen) NotToEnd = refl
+  fields_fine (Some Sixteen) NoLimit = refl
+  fields_fine (Some Ten) UpToM = refl
+  fields_fine (Some Ten) NotToEnd = refl
+  fields_fine (Some Ten) NoLimit = refl
+  fields_fine (Some ByList) UpToM = refl
+  fields_fine (Some ByList) NotToEnd = refl
+  fields_fine (Some ByList) NoLimit = refl
+  fields_fine None x = refl
 
-  works_fine : (b : Bool) (w : Works) (l : Layout) → (all_fine (rule 5 Dash b WrongCount ∷ idle_by w l k) ≡ true) × (all_fine (ranges_by w l m g t k s) ≡ true)
+  works_fine : (b : Bool) (w : Works) (l : Option Layout) → (all_fine (rule 5 Dash b WrongCount ∷ idle_by w l k) ≡ true) × (all_fine (ranges_by w l m g t k s) ≡ true)
   unfolding all_fine every
-  works_fine b OnBlocks Sixteen = (refl, refl)
-  works_fine b OnBlocks Ten = (refl, refl)
-  works_fine b OnBlocks ByList = (refl, refl)
-  works_fine b OnBlocks NoLayout = (refl, refl)
+  works_fine b OnBlocks (Some Sixteen) = (refl, refl)
+  works_fine b OnBlocks (Some Ten) = (refl, refl)
+  works_fine b OnBlocks (Some ByList) = (refl, refl)
+  works_fine b OnBlocks None = (refl, refl)
   works_fine b OnResult l = (refl, refl)
 
-  layout_fine : (l : Layout) → (all_fine (lists_by l m g t k s) ≡ true) × (all_fine (nested_by l m g k s) ≡ true)
+  layout_fine : (l : Option Layout) → (all_fine (lists_by l m g t k s) ≡ true) × (all_fine (nested_by l m g k s) ≡ true)
   unfolding all_fine every
-  layout_fine Sixteen = (refl, refl)
-  layout_fine Ten = (refl, refl)
-  layout_fine ByList = (refl, rw fault_fine)
-  layout_fine NoLayout = (refl, refl)
+  layout_fine (Some Sixteen) = (refl, refl)
+  layout_fine (Some Ten) = (refl, refl)
+  layout_fine (Some ByList) = (refl, rw fault_fine)
+  layout_fine None = (refl, refl)
 
   busy_fine : (x : Keeping) → all_fine (busy_by x m g k) ≡ true
   unfolding all_fine every
@@ -97,7 +97,7 @@ checks_fine : (o : Op) (m : List ℕ) (g : Geometry) (a : Came) (t : ℕ) (c s :
 unfolding all_fine every
 checks_fine o m g a t c s r = command_fine o m g t (command_of o a c) s r
 
-pub good_idle : (m : List ℕ) (a : Came) (c s : List ℕ) (r n : ℕ) (w : Seen) → decide_of m a c s r ≡ Stop n w Good → (n ≡ 6) ⊎ (n ≡ 7)
+pub good_idle : (m : List ℕ) (a : Came) (c s : List ℕ) (r n : ℕ) (w : Seen) → decide_of m a c s r ≡ stop n w Good → (n ≡ 6) ⊎ (n ≡ 7)
 unfolding all_fine
 good_idle m a c s r n w e =
     let h = why m a c s r n w Good e in

@@ -1,10 +1,9 @@
 -- What the checks of each command grant, stage by stage.
-use Rattle.std.specs.Prelude.{ℕ, ◌+◌, ◌≤◌, ◌<◌, Bool, true, false, not, ◌&&◌, List, ◌≡◌, ltb, eqb, length, get_or}
+use Rattle.std.specs.Prelude.{ℕ, ◌+◌, ◌≤◌, ◌<◌, Bool, true, false, not, ◌&&◌, List, ◌≡◌, ltb, eqb, length, get_or, Some, is_none, Ok}
 use Rattle.std.proofs.Common.{arith, true≢false, sym}
 use Rattle.std.proofs.Math.Path.{refl}
 use borrow.Author.Tests.{ltb-false, eqb-true, eqb-false, not-false}
 use Rattle.octets.specs.Number.{be}
-use Rattle.folds.specs.declared.Found.TheVariants.{At}
 use Rattle.folds.specs.Least.{index}
 use Rattle.rules.specs.Rule.{AllPass}
 use Rattle.geometry.specs.declared.Geometry.{Geometry}
@@ -27,19 +26,18 @@ use Rattle.meaning.specs.declared.Span.{Span}
 use Rattle.meaning.specs.declared.Act.{Act}
 use Rattle.meaning.specs.declared.Act.TheVariants.{Couple, Retain}
 use Rattle.meaning.specs.declared.Seen.{Seen}
-use Rattle.meaning.specs.declared.Fault.TheVariants.{Clear}
-use Rattle.meaning.specs.declared.Decision.TheVariants.{Stop, Go}
+use Rattle.meaning.specs.Decision.{stop, go}
 use Rattle.meaning.specs.Sources.{first_bad}
-use Rattle.meaning.specs.Checks.{is_nothing, is_unknown, limits, own_second, acts, resolved, span_of, second_of, sum_of}
+use Rattle.meaning.specs.Checks.{is_unknown, limits, own_second, acts, resolved, span_of, second_of, sum_of}
 use Rattle.meaning.specs.Allowed.{Blocks, Held, Free, empty_free, Sourced, Allowed}
 use Rattle.grants.specs.Passed.{not_zero, with_it, without_it, found, elsewhere, clear, Passed, sixteen_fields, ten_limit, list_limit, ListRead, list_read}
 use Rattle.grants.specs.Entries.{entries}
 
-pub no_stop : (n : ℕ) (w : Seen) (z : Answer) (x : Act) (y : Answer) → Stop n w z ≡ Go x y → ⊥
+pub no_stop : (n : ℕ) (w : Seen) (z : Answer) (x : Act) (y : Answer) → stop n w z ≡ go x y → ⊥
 no_stop n w z x y e = let q : ◌≡◌ {A = ℕ} 0 1 = cc in omega arith
 
 -- the slot that answers, where its length is the span's
-pub held_at : (m : List ℕ) (g : Geometry) → Shelf m g → (x : Span) (i : ℕ) → newest_of m g x.drive x.block.0 ≡ At i → (slot_of m g i).len ≡ x.count → Held m g x i
+pub held_at : (m : List ℕ) (g : Geometry) → Shelf m g → (x : Span) (i : ℕ) → newest_of m g x.drive x.block.0 ≡ Some i → (slot_of m g i).len ≡ x.count → Held m g x i
 held_at m g v x i e l =
     let n = newest_at m g x.drive x.block.0 i e in
     let u = newest_used m g x.drive x.block.0 v.slots_fine i n in
@@ -48,7 +46,7 @@ held_at m g v x i e l =
 -- where the checks from 4 on pass the operation does something, and that is granted
 pub record Grants (o : Op) (m : List ℕ) (g : Geometry) (t : ℕ) (k : Command) (s : List ℕ) (r : ℕ) : Type 0 where
   pub act : Act
-  pub goes : acts o m g t k s ≡ Go act Good
+  pub goes : acts o m g t k s ≡ go act Good
   pub allowed : Allowed m g s r act
 
 module _ (m : List ℕ) (g : Geometry) (t : ℕ) (s : List ℕ) (r : ℕ) (v : Shelf m g) (inside : t < g.d) (up : failed m g t ≡ false) (k : Command) where
@@ -56,7 +54,7 @@ module _ (m : List ℕ) (g : Geometry) (t : ℕ) (s : List ℕ) (r : ℕ) (v : S
   own : (k : Command) → 1 ≤ k.count → k.block.0 + k.count ≤ g.b → Blocks m g (span_of t k)
   own k h l = record { range = record { drive_in = inside; range_in = l }; present = up; some = h }
 
-  free : is_nothing (empty_slot m g) ≡ false → Free m g (index (empty_slot m g))
+  free : is_none (empty_slot m g) ≡ false → Free m g (index (empty_slot m g))
   free e = empty_free m g _ (found (empty_slot m g) e)
 
   -- of a command that names its blocks: they are there, and not none
@@ -64,7 +62,7 @@ module _ (m : List ℕ) (g : Geometry) (t : ℕ) (s : List ℕ) (r : ℕ) (v : S
   named i w = own k (not_zero _ i) (ltb-false _ _ w)
 
   -- the act x
-  does : (o : Op) (x : Act) → acts o m g t k s ≡ Go x Good → Allowed m g s r x → Grants o m g t k s r
+  does : (o : Op) (x : Act) → acts o m g t k s ≡ go x Good → Allowed m g s r x → Grants o m g t k s r
   does o x e h = record { act = x; goes = e; allowed = h }
 
   of_read : Passed Read m g t k s r → Grants Read m g t k s r
@@ -114,8 +112,8 @@ module _ (m : List ℕ) (g : Geometry) (t : ℕ) (s : List ℕ) (r : ℕ) (v : S
   of_xdwriteread p = does XdWriteRead _ refl (named p.idle_pass.0 p.range_pass.0, p.sent, ltb-false _ _ p.room_pass.0)
 
   -- the list and what follows it
-  sourced : length s ≡ list_bytes k g.l → eqb k.list 0 ≡ false → ListRead m g t k s → first_bad m g k.came s (resolved g k s).count 0 (get_or s 0 0) ≡ Clear
-      → (eqb (int_of k) 0 ≡ false → (resolved g k s).count ≡ k.count)
+  sourced : length s ≡ list_bytes k g.l → eqb k.list 0 ≡ false → ListRead m g t k s → first_bad m g k.came s (resolved g k s).count 0 (get_or s 0 0) ≡ Ok tt
+      → (int_of k ≡ true → (resolved g k s).count ≡ k.count)
       → Sourced m g (span_of t (resolved g k s)) (sum_of k) s
   sourced len list l bad same =
       record {
@@ -137,7 +135,7 @@ module _ (m : List ℕ) (g : Geometry) (t : ℕ) (s : List ℕ) (r : ℕ) (v : S
       does Rebuild _ refl (
         listed l.some_block (ltb-false _ _ p.range_pass.0),
         sourced p.sent p.idle_pass.0 l (clear _ p.nested_pass.0)
-            (λ h. resolved_same k.count (be 4 s 4) g.b (eqb-false _ _ (without_it (eqb (int_of k) 0) _ h ends.0))),
+            (λ h. resolved_same k.count (be 4 s 4) g.b (eqb-false _ _ (with_it (int_of k) _ h ends.0))),
       )
 
   of_regenerate : Passed Regenerate m g t k s r → Grants Regenerate m g t k s r

@@ -1,9 +1,7 @@
 -- What checks that have passed say.
-use Rattle.std.specs.Prelude.{ℕ, ◌+◌, ◌*◌, ◌≤◌, Bool, true, false, not, ◌&&◌, List, [], ◌∷◌, ◌++◌, ◌≡◌, refl, eqb, length, get_or}
+use Rattle.std.specs.Prelude.{ℕ, ◌+◌, ◌*◌, ◌≤◌, Bool, true, false, not, ◌&&◌, List, [], ◌∷◌, ◌++◌, ◌≡◌, refl, eqb, length, get_or, Option, Some, None, is_none, Ok, Err, is_err}
 use Rattle.std.proofs.Common.{arith, eqb-true}
 use Rattle.std.proofs.lemmas.Bool.{eqb-false, not-false}
-use Rattle.folds.specs.declared.Found.{Found}
-use Rattle.folds.specs.declared.Found.TheVariants.{At, Nothing}
 use Rattle.folds.specs.Least.{index}
 use Rattle.rules.specs.Rule.{rule, AllPass}
 use Rattle.rules.proofs.Rule.{pass_both}
@@ -14,11 +12,9 @@ use Rattle.command.specs.declared.Op.{Op}
 use Rattle.command.specs.declared.Command.{Command}
 use Rattle.command.specs.declared.Layout.TheVariants.{Sixteen, Ten, ByList}
 use Rattle.command.specs.Command.{Limit, command_of}
-use Rattle.meaning.specs.declared.Fault.{Fault}
-use Rattle.meaning.specs.declared.Fault.TheVariants.{Clear, Absent, Failed, Beyond}
 use Rattle.meaning.specs.declared.Seen.TheVariants.{Dash, Cdb}
-use Rattle.meaning.specs.Sources.{is_at, own_entry}
-use Rattle.meaning.specs.Checks.{is_nothing, zero_flags, zero_six, zero_control, limits, sec_flags, list_flags, own_second, fields_by, fields, sends, idle, list_length, list_head, list_rules, lists, ranges, busy, nested, rooms, is_fault, calls, cdb_calls, known, command_checks, checks_for}
+use Rattle.meaning.specs.Sources.{Vetted, is_at, own_entry}
+use Rattle.meaning.specs.Checks.{zero_flags, zero_six, zero_control, limits, sec_flags, list_flags, own_second, fields_by, fields, sends, idle, list_length, list_head, list_rules, lists, ranges, busy, nested, rooms, calls, cdb_calls, known, command_checks, checks_for}
 
 -- ---- the tests
 
@@ -34,24 +30,22 @@ pub without_it : (b x : Bool) → b ≡ false → (not b && x) ≡ false → x �
 without_it false x q e = e
 without_it true x q e = let z : ◌≡◌ {A = ℕ} 0 1 = cc in absurd (omega arith)
 
-pub found : (f : Found) → is_nothing f ≡ false → f ≡ At (index f)
-found (At i) e = refl
-found Nothing e = let z : ◌≡◌ {A = ℕ} 0 1 = cc in absurd (omega arith)
+pub found : (f : Option ℕ) → is_none f ≡ false → f ≡ Some (index f)
+found (Some i) e = refl
+found None e = let z : ◌≡◌ {A = ℕ} 0 1 = cc in absurd (omega arith)
 
-pub nothing : (f : Found) → not (is_nothing f) ≡ false → f ≡ Nothing
-nothing (At i) e = let z : ◌≡◌ {A = ℕ} 0 1 = cc in absurd (omega arith)
-nothing Nothing e = refl
+pub nothing : (f : Option ℕ) → not (is_none f) ≡ false → f ≡ None
+nothing (Some i) e = let z : ◌≡◌ {A = ℕ} 0 1 = cc in absurd (omega arith)
+nothing None e = refl
 
 -- what was found is not drive t
-pub elsewhere : (f : Found) (i t : ℕ) → f ≡ At i → is_at t f ≡ false → i ≡ t → ⊥
-elsewhere (At j) i t e h q = let p : j ≡ i = cc in eqb-false j t h (omega arith)
-elsewhere Nothing i t e h q = let z : ◌≡◌ {A = ℕ} 0 1 = cc in omega arith
+pub elsewhere : (f : Option ℕ) (i t : ℕ) → f ≡ Some i → is_at t f ≡ false → i ≡ t → ⊥
+elsewhere (Some j) i t e h q = let p : j ≡ i = cc in eqb-false j t h (omega arith)
+elsewhere None i t e h q = let z : ◌≡◌ {A = ℕ} 0 1 = cc in omega arith
 
-pub clear : (f : Fault) → is_fault f ≡ false → f ≡ Clear
-clear Clear e = refl
-clear (Absent i) e = let z : ◌≡◌ {A = ℕ} 0 1 = cc in absurd (omega arith)
-clear (Failed i k) e = let z : ◌≡◌ {A = ℕ} 0 1 = cc in absurd (omega arith)
-clear (Beyond i) e = let z : ◌≡◌ {A = ℕ} 0 1 = cc in absurd (omega arith)
+pub clear : (f : Vetted) → is_err f ≡ false → f ≡ Ok tt
+clear (Ok u) e = refl
+clear (Err x) e = let z : ◌≡◌ {A = ℕ} 0 1 = cc in absurd (omega arith)
 
 -- ---- by stage
 
@@ -110,16 +104,16 @@ through o m g a t c s room p =
 
 -- of the checks of fields, those that grant something: the length's and the secondary's
 module _ (x : Limit) (o : Op) (m : List ℕ) (g : Geometry) (t : ℕ) (k : Command) where
-  pub sixteen_fields : AllPass (fields_by Sixteen x o m g t k) → AllPass (limits x 6 g k) × AllPass (own_second m g t k)
+  pub sixteen_fields : AllPass (fields_by (Some Sixteen) x o m g t k) → AllPass (limits x 6 g k) × AllPass (own_second m g t k)
   sixteen_fields p =
       let to_limit = zero_flags o k ++ sec_flags k ++ limits x 6 g k in
       let own = pass_both to_limit (own_second m g t k) (pass_both (to_limit ++ own_second m g t k) (zero_control 15 k) p).0 in
       ((pass_both (zero_flags o k ++ sec_flags k) (limits x 6 g k) own.0).1, own.1)
 
-  pub ten_limit : AllPass (fields_by Ten x o m g t k) → AllPass (limits x 7 g k)
+  pub ten_limit : AllPass (fields_by (Some Ten) x o m g t k) → AllPass (limits x 7 g k)
   ten_limit p = (pass_both (zero_flags o k ++ zero_six k) (limits x 7 g k) (pass_both (zero_flags o k ++ zero_six k ++ limits x 7 g k) (zero_control 9 k) p).0).1
 
-  pub list_limit : AllPass (fields_by ByList x o m g t k) → AllPass (limits x 2 g k)
+  pub list_limit : AllPass (fields_by (Some ByList) x o m g t k) → AllPass (limits x 2 g k)
   list_limit p =
       let to_limit = zero_flags o k ++ list_flags k ++ limits x 2 g k in
       let to_six = (pass_both (to_limit ++ zero_six k) (zero_control 9 k) p).0 in
@@ -129,7 +123,7 @@ module _ (x : Limit) (o : Op) (m : List ℕ) (g : Geometry) (t : ℕ) (k : Comma
 pub record ListRead (m : List ℕ) (g : Geometry) (t : ℕ) (k : Command) (s : List ℕ) : Type 0 where
   pub as_long : k.list ≡ 8 + 8 * get_or s 0 0
   pub some_source : eqb (get_or s 0 0) 0 ≡ false
-  pub none_own : own_entry m g k.came s (get_or s 0 0) t ≡ Nothing
+  pub none_own : own_entry m g k.came s (get_or s 0 0) t ≡ None
   pub some_block : eqb k.count 0 ≡ false
 
 pub list_read : (m : List ℕ) (g : Geometry) (t : ℕ) (k : Command) (s : List ℕ) → AllPass (list_rules m g t k s) → ListRead m g t k s

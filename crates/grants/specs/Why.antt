@@ -8,19 +8,16 @@ use Rattle.sense.specs.declared.Answer.{Answer}
 use Rattle.sense.specs.declared.Answer.TheVariants.{Good}
 use Rattle.command.specs.Command.{op_of}
 use Rattle.meaning.specs.declared.Seen.{Seen}
-use Rattle.meaning.specs.declared.Decision.TheVariants.{Stop}
+use Rattle.meaning.specs.Decision.{stop, stop_same}
 use Rattle.meaning.specs.Checks.{checks, carried_out, decide_of}
 use Rattle.grants.specs.Each.{no_stop}
 use Rattle.grants.specs.Granted.{by_checks}
 
-stop_apart : (n n' : ℕ) (w w' : Seen) (a a' : Answer) → Stop n w a ≡ Stop n' w' a' → (n ≡ n') × (w ≡ w') × (a ≡ a')
-stop_apart n n' w w' a a' e = (cc, cc, cc)
-
 -- a stop names its reason
-pub why : (m : List ℕ) (a : Came) (c s : List ℕ) (r n : ℕ) (w : Seen) (y : Answer) → decide_of m a c s r ≡ Stop n w y
+pub why : (m : List ℕ) (a : Came) (c s : List ℕ) (r n : ℕ) (w : Seen) (y : Answer) → decide_of m a c s r ≡ stop n w y
     → Reason (checks (op_of (get_or c 0 0)) m a c s r) n w y
 unfolding decide_of
 why m a c s r n w y =
     let o = op_of (get_or c 0 0) in
-    reason Stop stop_apart (checks o m a c s r) (carried_out o m a c s) n w y
+    reason stop stop_same (checks o m a c s r) (carried_out o m a c s) n w y
     (λ p q. no_stop n w y _ Good (sym q ∙ (by_checks o m a c s r p).goes))

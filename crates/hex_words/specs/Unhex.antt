@@ -1,7 +1,11 @@
 -- What is read from digits: how much, byte by byte, and that it is what was written.
 use Rattle.std.specs.Prelude.{ℕ, zero, suc, ◌+◌, ◌*◌, ◌/◌, ◌%◌, ◌≤◌, ◌<◌, true, ◌&&◌, List, [], ◌∷◌, ◌++◌, ◌≡◌, refl, eqb, ltb, leb, length, get_or, take, set}
-use Rattle.std.proofs.Common.{add-one, arith, ⊎_elim, sym, ap, ap₂, ◌∙◌, take-suc, ltb-true, leb-true, eqb-true, ne_eqb, lt-ltb, le-ltb, le-leb}
+use Rattle.std.specs.Simd.{first_chunks}
+use Rattle.std.proofs.Common.{not-suc-le-zero, add-zero, zero-add, drop, length-drop, get_or-take, get_or-drop, add-one, arith, ⊎_elim, sym, ap, ap₂, ◌∙◌, take-suc, ltb-true, leb-true, eqb-true, ne_eqb, lt-ltb, le-ltb, le-leb}
 use Rattle.std.proofs.Math.Bool.{and-eq-true_iff}
+use Rattle.std.specs.Int.{from_be_bytes}
+use Rattle.std.proofs.Common.{w32}
+use Rattle.octets.specs.Number.{be, num}
 use Rattle.octets.specs.Octets.{Octets, octets_tail}
 use Rattle.octets.specs.Part.{part}
 use Rattle.octets.specs.Put.{length_put}
@@ -68,6 +72,18 @@ get_or_unhex (h ∷ k ∷ w) (suc i) l =
     let b : suc (suc (2 * i)) + 1 ≡ suc (suc (2 * i + 1)) = omega arith in
     rw (a, b) (get_or_unhex w i (omega arith))
 
+-- the word in pairs of digits, as `as_chunks` cuts it
+pub pair_digits : (w : List ℕ) (pairs : List (List ℕ)) (i : ℕ) → pairs ≡ first_chunks 2 (length w / 2) w → i < length w / 2
+    → (get_or (get_or pairs i []) 0 0 ≡ get_or w (2 * i) 0) × (get_or (get_or pairs i []) 1 0 ≡ get_or w (2 * i + 1) 0)
+pair_digits w pairs i e l = rw e (digits (length w / 2) w i 0 l (omega arith) (omega arith) ∙ ap (λ (m : ℕ). get_or w m 0) (add-zero (2 * i)), digits (length w / 2) w i 1 l (omega arith) (omega arith))
+  where
+    digits : (n : ℕ) (v : List ℕ) (k j : ℕ) → k < n → 2 * n ≤ length v → j < 2 → get_or (get_or (first_chunks 2 n v) k []) j 0 ≡ get_or v (2 * k + j) 0
+    digits zero v k j l h m = absurd (not-suc-le-zero l)
+    digits (suc n) v zero j l h m = get_or-take 2 v j 0 m ∙ ap (λ (q : ℕ). get_or v q 0) (sym (zero-add j))
+    digits (suc n) v (suc k) j l h m =
+        let e : 2 + (2 * k + j) ≡ 2 * suc k + j = omega arith in
+        digits n (drop 2 v) k j (omega arith) (rw length-drop (omega arith)) m ∙ get_or-drop 2 v (2 * k + j) 0 ∙ ap (λ (q : ℕ). get_or v q 0) e
+
 -- a turn of the loop: two digits more
 pub unhex_more : (w : List ℕ) (i h l : ℕ) (before room : List ℕ) → i < length w / 2 → h ≡ digit_in (get_or w (2 * i) 0) → l ≡ digit_in (get_or w (2 * i + 1) 0)
     → Wrote (take i (unhex w)) 0 i before room → Wrote (take (i + 1) (unhex w)) 0 (i + 1) before (set room i (16 * h + l))
@@ -132,3 +148,14 @@ word_none bs e = rw e
 pub word_some : (bs : List ℕ) → (length bs ≡ 0 → ⊥) → word_of bs ≡ hexadecimal bs
 unfolding word_of
 word_some bs e = rw (ne_eqb (length bs) 0 e)
+
+-- ---- the number of four bytes, as std says it
+
+pub number_of_bytes : (xs : List ℕ) → length xs ≡ 4 → from_be_bytes w32 xs ≡ be 4 xs 0
+unfolding num part
+number_of_bytes (a ∷ b ∷ c ∷ d ∷ []) e = omega arith
+number_of_bytes [] e = absurd (omega arith)
+number_of_bytes (a ∷ []) e = absurd (omega arith)
+number_of_bytes (a ∷ b ∷ []) e = absurd (omega arith)
+number_of_bytes (a ∷ b ∷ c ∷ []) e = absurd (omega arith)
+number_of_bytes (a ∷ b ∷ c ∷ d ∷ x ∷ xs) e = absurd (omega arith)

@@ -1,6 +1,8 @@
 -- The words of a line.
-use Rattle.std.specs.Prelude.{ℕ, ◌+◌, ◌-◌, ◌≤◌, ◌<◌, true, false, ◌≡◌, eqb, length, get_or}
-use Rattle.std.proofs.Common.{add-one, arith, ⊎_elim, ◌∙◌, take-append-drop, length-drop, take-suc, drop-cons, length-take-le}
+use Rattle.std.specs.Prelude.{ℕ, zero, suc, Option, Some, None, MatchOption, refl, ◌+◌, ◌-◌, ◌≤◌, ◌<◌, true, false, ◌≡◌, eqb, length, get_or}
+use Rattle.std.specs.List.{AllWithin, HoldsAt}
+use Rattle.std.specs.Option.{unwrap_or}
+use Rattle.std.proofs.Common.{ne_eqb, add-one, arith, ⊎_elim, ◌∙◌, take-append-drop, length-drop, take-suc, drop-cons, length-take-le}
 use mathlib.Core.List.{List, [], ◌∷◌, ◌++◌}
 use Rattle.std.proofs.Math.Path.{sym, ap}
 use Rattle.std.proofs.Math.ListN.{take, drop}
@@ -63,3 +65,19 @@ module _ (xs : List ℕ) (e : ℕ) (h : Cut xs e) where
 pub plain_more : (xs : List ℕ) (i : ℕ) → i < length xs → lacks 32 (take i xs) ≡ true → eqb (get_or xs i 0) 32 ≡ false → lacks 32 (take (i + 1) xs) ≡ true
 unfolding lacks
 plain_more xs i l h f = rw (add-one, take-suc xs i 0 l) (lacks_append 32 (take i xs) (get_or xs i 0 ∷ []) h (rw f))
+
+-- no byte of a front is a space
+pub plain_below : (xs : List ℕ) (e : ℕ) → e ≤ length xs → ((k : ℕ) → k < e → get_or xs k 0 ≡ 32 → ⊥) → lacks 32 (take e xs) ≡ true
+unfolding lacks
+plain_below xs zero l h = refl
+plain_below xs (suc e) l h =
+    rw add-one at (plain_more xs e (omega arith) (plain_below xs e (omega arith) (λ k m. h k (omega arith))) (ne_eqb _ 32 (h e (omega arith))))
+
+-- the first space that a search finds, or the end
+pub cut_found : (xs : List ℕ) (found : Option ℕ)
+    → MatchOption found (AllWithin (λ b. b ≡ 32 → ⊥) xs 0 (length xs)) (λ i. (i < length xs) × HoldsAt (λ b. b ≡ 32) xs i × AllWithin (λ b. b ≡ 32 → ⊥) xs 0 i)
+    → Cut xs (unwrap_or found (length xs))
+cut_found xs None h =
+    record { inside = omega arith; plain = plain_below xs (length xs) (omega arith) (λ k m. h k 0 (omega arith) m); space = λ l. absurd (omega arith) }
+cut_found xs (Some i) h =
+    record { inside = omega arith; plain = plain_below xs i (omega arith) (λ k m. h.2 k 0 (omega arith) m); space = λ l. h.1 0 }

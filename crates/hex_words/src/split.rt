@@ -7,30 +7,12 @@ ghost use Rattle.hex_words.specs.Words.{Cut};
 pub fn cut(line: &[u8]) -> usize
     ensures { Cut line.now result }
 {
-    let n = line.len();
-    let mut i = 0;
-    while i < n {
-        if line[i] == 32 {
-            return i;
-        }
-        i += 1;
-    }
-    n
+    line.iter().position(|b| *b == b' ').unwrap_or(line.len())
 }
 
+// Are the words one? It stays beside std's `==` as a public function, in the words of the definition (`same_list`).
 pub fn same(v: &[u8], w: &[u8]) -> bool
     ensures { result ≡ same_list v.now w.now }
 {
-    let n = v.len();
-    if n != w.len() {
-        return false;
-    }
-    let mut j = 0;
-    while j < n {
-        if v[j] != w[j] {
-            return false;
-        }
-        j += 1;
-    }
-    true
+    v == w
 }

@@ -1,6 +1,5 @@
 -- The bench shelf is valid; what spoils it, and where that is seen first.
-use Rattle.std.specs.Prelude.{ℕ, List, ◌++◌, true, false, ◌≡◌, refl, set, take, drop}
-use Rattle.std.proofs.Math.Option.{Option, some, none}
+use Rattle.std.specs.Prelude.{ℕ, List, ◌++◌, true, false, ◌≡◌, refl, set, take, drop, Option, Some, None}
 use Rattle.octets.specs.Part.{part}
 use Rattle.octets.specs.Number.{num}
 use Rattle.folds.specs.Every.{every}
@@ -35,7 +34,7 @@ spoilt_not = (refl, refl, refl, refl)
 
 -- where it is seen first that an image is not valid
 abbrev seen : List ℕ → Option Site
-seen m = first (λ n w a. some w) (broken (image_musts m)) none
+seen m = first (λ n w a. Some w) (broken (image_musts m)) None
 
 -- the bench shelf with two slots
 abbrev two_slots : List ℕ → List ℕ → List ℕ
@@ -45,18 +44,18 @@ two_slots a b = take 44 (set (set bench 15 2) 31 92) ++ a ++ b ++ drop 68 bench
 -- a rank without a kind; a used slot of rank 0; ranks 2 and 1, the second of kind 5; two of rank 1
 -- an address that repeats; a state of 2 before it, and behind it
 pub seen_first :
-    (seen bench ≡ none)
-    × (seen (take 31 bench) ≡ some Length)
-    × (seen (take 40 (set bench 3 1)) ≡ some (Byte 0))
-    × (seen (set bench 3 4) ≡ some (Byte 24))
-    × (seen (set bench 15 2) ≡ some (Byte 28))
-    × (seen (set bench 7 3) ≡ some Length)
-    × (seen (set bench 47 1) ≡ some (Byte 44))
-    × (seen (set after_c2 47 0) ≡ some (Byte 44))
-    × (seen (two_slots (set (holding 1 0 zeros) 3 2) (holding 5 0 zeros)) ≡ some (Byte 72))
-    × (seen (two_slots (holding 1 0 zeros) (holding 1 0 zeros)) ≡ some (Byte 68))
-    × (seen (set bench 39 1) ≡ some (Byte 37))
-    × (seen (set (set bench 36 2) 43 1) ≡ some (Byte 36))
-    × (seen (set (set bench 39 1) 40 2) ≡ some (Byte 37))
+    (seen bench ≡ None)
+    × (seen (take 31 bench) ≡ Some Length)
+    × (seen (take 40 (set bench 3 1)) ≡ Some (Byte 0))
+    × (seen (set bench 3 4) ≡ Some (Byte 24))
+    × (seen (set bench 15 2) ≡ Some (Byte 28))
+    × (seen (set bench 7 3) ≡ Some Length)
+    × (seen (set bench 47 1) ≡ Some (Byte 44))
+    × (seen (set after_c2 47 0) ≡ Some (Byte 44))
+    × (seen (two_slots (set (holding 1 0 zeros) 3 2) (holding 5 0 zeros)) ≡ Some (Byte 72))
+    × (seen (two_slots (holding 1 0 zeros) (holding 1 0 zeros)) ≡ Some (Byte 68))
+    × (seen (set bench 39 1) ≡ Some (Byte 37))
+    × (seen (set (set bench 36 2) 43 1) ≡ Some (Byte 36))
+    × (seen (set (set bench 39 1) 40 2) ≡ Some (Byte 37))
 unfolding slot_of slot_at every all_below count_below part num
 seen_first = (refl, refl, refl, refl, refl, refl, refl, refl, refl, refl, refl, refl, refl)

@@ -1,8 +1,7 @@
 -- Each change of an image leaves a valid one valid, with the same geometry.
-use Rattle.std.specs.Prelude.{◌≡◌, true, List, ℕ, ◌*◌, ◌≤◌, ◌<◌}
+use Rattle.std.specs.Prelude.{◌≡◌, true, List, ℕ, ◌*◌, ◌≤◌, ◌<◌, Some}
 use Rattle.std.proofs.Common.{◌∙◌, inl, inr, le_refl, arith}
 use Rattle.octets.specs.Put.{put, length_put}
-use Rattle.folds.specs.declared.Found.TheVariants.{At}
 use Rattle.geometry.specs.declared.Geometry.{Geometry}
 use Rattle.geometry.specs.Header.{slot_size}
 use Rattle.geometry.specs.Kept.{framed_alike}
@@ -22,7 +21,7 @@ use Rattle.image.specs.Shelf.{Shelf, shelf_frame, shelf_kept}
 
 module _ (s : List ℕ) (g : Geometry) (h : Shelf s g) where
   -- a result comes
-  pub shelf_retained : (x : ℕ) → empty_slot s g ≡ At x → (r : Result) → Sound g r → Shelf (with_result s g r) g
+  pub shelf_retained : (x : ℕ) → empty_slot s g ≡ Some x → (r : Result) → Sound g r → Shelf (with_result s g r) g
   shelf_retained x e r w =
       let f = shelf_frame s g h in
       shelf_kept s (with_result s g r) g h (length_retained s g r)

@@ -2,20 +2,28 @@
 
 #![tactic(auto)]
 
-ghost use Rattle.std.specs.Prelude.{◌≡◌};
+ghost use Rattle.std.specs.Prelude.{◌≡◌, true, false, MatchOption};
+ghost use Rattle.geometry.specs.Header.{geometry_of};
 ghost use Rattle.image.specs.Valid.{valid_image};
 
-use geometry::Geometry;
+use geometry::Frame;
+
+// The image with its header, where it is a shelf's.
+pub fn shelf_of(image: &[u8]) -> Option<Frame<'_>>
+    ensures { MatchOption result (valid_image image.now ≡ false) (λ f. (valid_image image.now ≡ true) × (f.image ≡ image.entry) × (f.g ≡ geometry_of image.now)) }
+{
+    let shelf = Frame::of(image)?;
+    if !drives::table_ok(shelf) {
+        return None;
+    }
+    if !slots::slots_ok(shelf) {
+        return None;
+    }
+    Some(shelf)
+}
 
 pub fn valid(image: &[u8]) -> bool
     ensures { result ≡ valid_image image.now }
 {
-    if !geometry::framed(image) {
-        return false;
-    }
-    let g = Geometry::read(image);
-    if !drives::table_ok(image, g) {
-        return false;
-    }
-    slots::slots_ok(image, g)
+    shelf_of(image).is_some()
 }

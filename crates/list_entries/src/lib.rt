@@ -3,80 +3,67 @@
 #![tactic(auto)]
 
 ghost use Rattle.std.specs.Prelude.{◌≡◌, ◌+◌, ◌*◌, ◌<◌, ◌≤◌, length};
-ghost use Rattle.geometry.specs.Frame.{Framed};
 ghost use Rattle.meaning.specs.Sources.{is_at, own_entry, first_bad};
 
 use command::Source;
 use drives::Came;
-use folds::Found;
-use geometry::Geometry;
+use geometry::Frame;
 use meaning::Fault;
 
 // Is it drive t that the lookup gave?
-pub fn is_at(found: Found, t: usize) -> bool
+pub fn is_at(found: Option<usize>, t: usize) -> bool
     ensures { result ≡ is_at t found }
 {
-    match found {
-        Found::At(i) => i == t,
-        Found::Nothing => false,
-    }
+    found == Some(t)
 }
 
 // The first of n entries that is the target, drive t.
-pub fn own_entry(image: &[u8], g: Geometry, came: Came, sent: &[u8], n: usize, t: usize) -> Found
-    requires { Framed image.now g × (8 + 8 * n ≤ length sent.now) }
-    ensures { result ≡ own_entry image.now g came sent.now n t }
+pub fn own_entry(shelf: Frame<'_>, came: Came, sent: &[u8], n: usize, t: usize) -> Option<usize>
+    requires { 8 + 8 * n ≤ length sent.now }
+    ensures { result ≡ own_entry shelf.entry.image.now shelf.entry.g came sent.now n t }
 {
-    let mut i = 0;
-    while i < n {
-        let source = Source::read(sent, i);
-        let address = source.address;
-        if is_at(drives::find_source(image, g, came, address), t) {
-            return Found::At(i);
-        }
-        i += 1;
-    }
-    Found::Nothing
+    (0..n).find(|i| {
+        let source = Source::read(sent, *i);
+        is_at(drives::find_source(shelf, came, source.address), t)
+    })
 }
 
 // What is wrong with the first of n entries that fails: its address is in no entry of the table, or
-// the drive has failed, or its `count` blocks pass the drive's end. The search is that of `find_source`, made
-// here for the exit from it.
+// the drive has failed, or its `count` blocks pass the drive's end. 01 names the form: a loop that yields the
+// failing entry by break, with a labelled exit from the inner search of the table (that of `find_source`).
 pub fn first_bad(
-    image: &[u8],
-    g: Geometry,
+    shelf: Frame<'_>,
     came: Came,
     sent: &[u8],
     n: usize,
     count: usize,
-) -> Fault
-    requires { Framed image.now g × (8 + 8 * n ≤ length sent.now) × (count < 4294967296) }
-    ensures { result ≡ first_bad image.now g came sent.now count 0 n }
+) -> Result<(), Fault>
+    requires { (8 + 8 * n ≤ length sent.now) × (count < 4294967296) }
+    ensures { result ≡ first_bad shelf.entry.image.now shelf.entry.g came sent.now count 0 n }
 {
-    let table = g.d;
-    let blocks = g.b;
+    let table = shelf.g.d;
+    let blocks = shelf.g.b;
     let mut i = 0;
     let fault = 'entries: loop {
         if i >= n {
-            break Fault::Clear;
+            break Ok(());
         }
         let source = Source::read(sent, i);
         let mut k = 0;
         loop {
             if k >= table {
-                break 'entries Fault::Absent(i);
+                break 'entries Err(Fault::Absent(i));
             }
-            let own = drives::address(image, g, k);
-            if own.0 == source.address.0 {
+            if drives::address(shelf, k) == source.address {
                 break;
             }
             k += 1;
         }
-        if drives::is_failed(image, g, k) {
-            break Fault::Failed(i, k);
+        if drives::is_failed(shelf, k) {
+            break Err(Fault::Failed(i, k));
         }
         if blocks < source.block.0 + count {
-            break Fault::Beyond(i);
+            break Err(Fault::Beyond(i));
         }
         i += 1;
     };

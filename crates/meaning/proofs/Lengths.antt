@@ -1,7 +1,7 @@
 -- How long the XOR of the sources and the intermediate data is.
 use Prim.Native.Nat.{ℕ, zero, suc, ◌+◌, ◌*◌, ◌≤◌, ◌<◌}
 use Rattle.std.proofs.Common.{arith, length-append}
-use Rattle.std.specs.Prelude.{◌≡◌, Bool, true, false, cond, List, [], ◌∷◌, ◌++◌, eqb, length, get_or}
+use Rattle.std.specs.Prelude.{◌≡◌, Bool, true, false, cond, List, [], ◌∷◌, ◌++◌, length, get_or}
 use Rattle.std.proofs.Math.Path.{refl, ap}
 use Rattle.octets.specs.Part.{part, length_part}
 use Rattle.octets.specs.Operands.{xor_all, Long, length_xor_all_some}
@@ -28,23 +28,23 @@ module _ (s : List ℕ) (g : Geometry) (a : Came) (sent : List ℕ) (count : ℕ
   long_sources i zero h = tt
   long_sources i (suc left) h = (h i (omega arith), long_sources (i + 1) left (λ e l. h e (omega arith)))
 
-  long_int : (at : ℕ) (none : Bool) → (none ≡ false → length sent ≡ at + count * g.l) → Long (count * g.l) (cond none [] (part sent at (count * g.l) ∷ []))
-  long_int at true h = tt
-  long_int at false h = (length_part sent at (count * g.l) (let e = h refl in omega arith), tt)
+  long_int : (at : ℕ) (int : Bool) → (int ≡ true → length sent ≡ at + count * g.l) → Long (count * g.l) (cond int (part sent at (count * g.l) ∷ []) [])
+  long_int at false h = tt
+  long_int at true h = (length_part sent at (count * g.l) (let e = h refl in omega arith), tt)
 
   -- it is as long as each operand
-  operands_long : (n int : ℕ) → 1 ≤ n → ((e : ℕ) → e < n → length (source_blocks s g a sent count e) ≡ count * g.l)
-      → (eqb int 0 ≡ false → length sent ≡ 8 + 8 * n + count * g.l)
+  operands_long : (n : ℕ) (int : Bool) → 1 ≤ n → ((e : ℕ) → e < n → length (source_blocks s g a sent count e) ≡ count * g.l)
+      → (int ≡ true → length sent ≡ 8 + 8 * n + count * g.l)
       → length (xor_all (sources_from s g a sent count 0 n ++ int_data g sent count n int)) ≡ count * g.l
   operands_long n int some each exact =
       let xs = sources_from s g a sent count 0 n in
       let ys = int_data g sent count n int in
       length_xor_all_some (count * g.l) (xs ++ ys) (omega (arith, length-append xs ys, length_sources 0 n))
-      (each_append (λ (x : List ℕ). length x ≡ count * g.l) xs ys (long_sources 0 n (λ e l. each e (omega arith))) (long_int (8 + 8 * n) (eqb int 0) exact))
+      (each_append (λ (x : List ℕ). length x ≡ count * g.l) xs ys (long_sources 0 n (λ e l. each e (omega arith))) (long_int (8 + 8 * n) int exact))
 
 pub gathered_long : (s : List ℕ) (g : Geometry) (sent : List ℕ) (count : ℕ) (j : Summing) → 1 ≤ get_or sent 0 0
     → ((e : ℕ) → e < get_or sent 0 0 → length (source_blocks s g j.came sent count e) ≡ count * g.l)
-    → (eqb j.int 0 ≡ false → length sent ≡ 8 + 8 * get_or sent 0 0 + count * g.l) → length (gathered s g sent count j) ≡ count * g.l
+    → (j.int ≡ true → length sent ≡ 8 + 8 * get_or sent 0 0 + count * g.l) → length (gathered s g sent count j) ≡ count * g.l
 unfolding gathered
 gathered_long s g sent count j = operands_long s g j.came sent count (get_or sent 0 0) j.int
 

@@ -1,7 +1,7 @@
 -- What a command that passed every check does to the image, and what it hands to the receive room (01, "Commands"; 02, A1). Every
 -- operand is read from the image before the command. Each statement of the code that acts is one of these stores, or a piece of one,
 -- and they are done in the order in which they stand, pieces ascending; what is handed out goes before all of them.
-use Rattle.std.specs.Prelude.{ℕ, zero, suc, ◌+◌, ◌*◌, List, [], ◌∷◌, ◌++◌, map, Bool, cond, eqb, get_or}
+use Rattle.std.specs.Prelude.{ℕ, zero, suc, ◌+◌, ◌*◌, List, [], ◌∷◌, ◌++◌, map, Bool, not, cond, get_or}
 use Rattle.octets.specs.Part.{part}
 use Rattle.octets.specs.Xor.{◌⊻◌}
 use Rattle.octets.specs.Operands.{xor_all}
@@ -77,22 +77,22 @@ stores_in m g e = data_stores g e.change ++ map (block_store g) e.writes ++ reco
 -- ---- XDWRITE
 
 -- "result = data XOR old blocks, or the data itself with Mirror"
-abbrev pub mixed : ℕ → List ℕ → List ℕ → List ℕ
-mixed mirror bytes old = cond (eqb mirror 0) (bytes ⊻ old) bytes
+abbrev pub mixed : Bool → List ℕ → List ℕ → List ℕ
+mixed mirror bytes old = cond mirror bytes (bytes ⊻ old)
 
-abbrev pub result_of : List ℕ → Geometry → Span → ℕ → List ℕ → List ℕ
+abbrev pub result_of : List ℕ → Geometry → Span → Bool → List ℕ → List ℕ
 result_of m g x mirror s = mixed mirror s (blocks_of m g x)
 
 -- "Sec Ctl 00 or 10: the result goes to the secondary at its block, XORed into it, or written plainly with Mirror."
 abbrev pub laid : Bool → List ℕ → List ℕ → List ℕ
 laid adds there bytes = cond adds (there ⊻ bytes) bytes
 
-abbrev pub passed_on : List ℕ → Geometry → Span → Span → ℕ → List ℕ → List ℕ
-passed_on m g x y mirror s = laid (eqb mirror 0) (blocks_of m g y) (result_of m g x mirror s)
+abbrev pub passed_on : List ℕ → Geometry → Span → Span → Bool → List ℕ → List ℕ
+passed_on m g x y mirror s = laid (not mirror) (blocks_of m g y) (result_of m g x mirror s)
 
 -- with Sec Ctl 11 the data is written where NDisc is 0, and by 50h and 53h where DISABLE WRITE is 0
-abbrev pub data_over : Span → ℕ → List ℕ → List Over
-data_over x ndisc s = cond (eqb ndisc 0) (over x s ∷ []) []
+abbrev pub data_over : Span → Bool → List ℕ → List Over
+data_over x ndisc s = cond ndisc [] (over x s ∷ [])
 
 -- ---- REBUILD and REGENERATE
 
@@ -116,8 +116,8 @@ sources_from m g a s count i zero = []
 sources_from m g a s count i (suc left) = source_blocks m g a s count i ∷ sources_from m g a s count (i + 1) left
 
 -- "the intermediate data is the part of the data-out bytes that starts right after the list; it is one more operand"
-abbrev pub int_data : Geometry → List ℕ → ℕ → ℕ → ℕ → List (List ℕ)
-int_data g s count n int = cond (eqb int 0) [] (part s (8 + 8 * n) (count * g.l) ∷ [])
+abbrev pub int_data : Geometry → List ℕ → ℕ → ℕ → Bool → List (List ℕ)
+int_data g s count n int = cond int (part s (8 + 8 * n) (count * g.l) ∷ []) []
 
 -- "List: byte 0 number of sources": the XOR of the sources and the intermediate data
 unfoldable pub gathered : List ℕ → Geometry → List ℕ → ℕ → Summing → List ℕ

@@ -1,6 +1,5 @@
 -- What a decision to go grants the code that acts, by act.
-use Rattle.std.specs.Prelude.{ℕ, ◌+◌, ◌*◌, ◌≤◌, ◌<◌, ◌≡◌, false, cond, List, eqb, length, get_or}
-use Rattle.folds.specs.declared.Found.TheVariants.{At}
+use Rattle.std.specs.Prelude.{ℕ, ◌+◌, ◌*◌, ◌≤◌, ◌<◌, ◌≡◌, false, cond, List, length, get_or, Some}
 use Rattle.geometry.specs.declared.Geometry.{Geometry}
 use Rattle.geometry.specs.Places.{Range}
 use Rattle.drives.specs.declared.Came.{Came}
@@ -34,31 +33,31 @@ Limited g x = x.count ≤ g.m
 
 -- slot i answers
 pub record Held (m : List ℕ) (g : Geometry) (x : Span) (i : ℕ) : Type 0 where
-  pub answers : newest_of m g x.drive x.block.0 ≡ At i
+  pub answers : newest_of m g x.drive x.block.0 ≡ Some i
   pub slot_in : i < g.s
   pub same_len : (slot_of m g i).len ≡ x.count
   pub limited : x.count ≤ g.m
 
 -- slot i takes the result
 pub record Free (m : List ℕ) (g : Geometry) (i : ℕ) : Type 0 where
-  pub takes : empty_slot m g ≡ At i
+  pub takes : empty_slot m g ≡ Some i
   pub slot_in : i < g.s
   pub unused : is_used (slot_of m g i) ≡ false
 
-pub empty_free : (m : List ℕ) (g : Geometry) (i : ℕ) → empty_slot m g ≡ At i → Free m g i
+pub empty_free : (m : List ℕ) (g : Geometry) (i : ℕ) → empty_slot m g ≡ Some i → Free m g i
 empty_free m g i e = let w = empty_inside m g i e in record { takes = e; slot_in = w.0; unused = w.1 }
 
 -- the source e names blocks of another drive, which is present
 pub record NamesOther (m : List ℕ) (g : Geometry) (a : Came) (x : Span) (e : Source) : Type 0 where
   pub drive : ℕ
-  pub found : source_drive m g a e.address.0 ≡ At drive
+  pub found : source_drive m g a e.address.0 ≡ Some drive
   pub range : Range g drive e.block.0 x.count
   pub present : failed m g drive ≡ false
   pub other : drive ≡ x.drive → ⊥
 
 pub record Sourced (m : List ℕ) (g : Geometry) (x : Span) (j : Summing) (s : List ℕ) : Type 0 where
   pub some_source : 1 ≤ get_or s 0 0
-  pub exact : length s ≡ 8 + 8 * get_or s 0 0 + cond (eqb j.int 0) 0 (x.count * g.l)
+  pub exact : length s ≡ 8 + 8 * get_or s 0 0 + cond j.int (x.count * g.l) 0
   pub each : (i : ℕ) → i < get_or s 0 0 → NamesOther m g j.came x (source_of s i)
 
 abbrev pub Allowed : List ℕ → Geometry → List ℕ → ℕ → Act → Type 0

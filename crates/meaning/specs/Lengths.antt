@@ -1,9 +1,9 @@
 -- Where the blocks of an act lie, and how long its bytes are.
 use Prim.Native.Nat.{ℕ, ◌+◌, ◌*◌, ◌≤◌}
 use Rattle.std.proofs.Common.{arith, sym, ◌∙◌}
-use Rattle.std.specs.Prelude.{◌≡◌, Bool, true, false, cond, List, eqb, length, get_or}
+use Rattle.std.specs.Prelude.{◌≡◌, Bool, true, false, cond, List, length, get_or}
 use Rattle.std.proofs.Math.Path.{refl, ap}
-use Rattle.octets.specs.Xor.{◌⊻◌, length_xor_le}
+use Rattle.octets.specs.Xor.{length_xor_le}
 use Rattle.folds.specs.Least.{index}
 use Rattle.geometry.specs.declared.Geometry.{Geometry}
 use Rattle.geometry.specs.Frame.{Framed}
@@ -27,18 +27,15 @@ pub length_laid : (adds : Bool) (there bytes : List ℕ) → length there ≡ le
 length_laid true there bytes e = length_xor_le there bytes (omega arith) ∙ e
 length_laid false there bytes e = refl
 
-pub length_mixed : (mirror : ℕ) (bytes old : List ℕ) → length old ≡ length bytes → length (mixed mirror bytes old) ≡ length bytes
-length_mixed mirror bytes old e = pick (eqb mirror 0)
-  where
-    pick : (none : Bool) → length (cond none (bytes ⊻ old) bytes) ≡ length bytes
-    pick true = length_xor_le bytes old (omega arith)
-    pick false = refl
+pub length_mixed : (mirror : Bool) (bytes old : List ℕ) → length old ≡ length bytes → length (mixed mirror bytes old) ≡ length bytes
+length_mixed true bytes old e = refl
+length_mixed false bytes old e = length_xor_le bytes old (omega arith)
 
 module _ (s : List ℕ) (g : Geometry) (f : Framed s g) (x : Span) (b : Blocks s g x) where
   pub length_blocks : length (blocks_of s g x) ≡ x.count * g.l
   length_blocks = range_long s g x.drive x.block.0 x.count f b.range
 
-  pub length_result : (mirror : ℕ) (sent : List ℕ) → length sent ≡ x.count * g.l → length (result_of s g x mirror sent) ≡ x.count * g.l
+  pub length_result : (mirror : Bool) (sent : List ℕ) → length sent ≡ x.count * g.l → length (result_of s g x mirror sent) ≡ x.count * g.l
   length_result mirror sent e = length_mixed mirror sent (blocks_of s g x) (length_blocks ∙ sym e) ∙ e
 
 -- one source: its blocks are those of the drive that its address names, and lie in the image
@@ -57,5 +54,5 @@ module _ (s : List ℕ) (g : Geometry) (x : Span) (j : Summing) (sent : List ℕ
   pub list_in : 8 + 8 * get_or sent 0 0 ≤ length sent
   list_in = omega (arith, h.exact)
 
-  pub int_exact : eqb j.int 0 ≡ false → length sent ≡ 8 + 8 * get_or sent 0 0 + x.count * g.l
-  int_exact q = h.exact ∙ ap (λ (c : Bool). 8 + 8 * get_or sent 0 0 + cond c 0 (x.count * g.l)) q
+  pub int_exact : j.int ≡ true → length sent ≡ 8 + 8 * get_or sent 0 0 + x.count * g.l
+  int_exact q = h.exact ∙ ap (λ (c : Bool). 8 + 8 * get_or sent 0 0 + cond c (x.count * g.l) 0) q

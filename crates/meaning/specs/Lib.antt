@@ -2,7 +2,9 @@ pub mod Acts
 pub mod Allowed
 pub mod Lengths
 pub mod Sources
+pub mod Decision
 pub mod Checks
+pub mod Runs
 pub mod Step
 pub mod Stepped
 pub mod Codes

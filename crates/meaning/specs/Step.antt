@@ -1,6 +1,6 @@
 -- What a step, a reset and a marking mean: the decision, and then what is left of the image and of the receive room. A refusal leaves
 -- both alone ("No refusal changes image or receive room.").
-use Rattle.std.specs.Prelude.{ℕ, List, [], ◌∷◌, ◌++◌, ltb, length}
+use Rattle.std.specs.Prelude.{ℕ, List, [], ◌∷◌, ◌++◌, ltb, length, Ok, Err}
 use Rattle.octets.specs.Put.{put}
 use Rattle.rules.specs.Rule.{rule, first}
 use Rattle.folds.specs.Least.{index}
@@ -14,8 +14,7 @@ use Rattle.sense.specs.declared.Outcome.{Outcome}
 use Rattle.sense.specs.Sense.{outcome_of}
 use Rattle.meaning.specs.declared.Seen.{Seen}
 use Rattle.meaning.specs.declared.Seen.TheVariants.{Dash}
-use Rattle.meaning.specs.declared.Decision.{Decision}
-use Rattle.meaning.specs.declared.Decision.TheVariants.{Stop, Go}
+use Rattle.meaning.specs.Decision.{Decision}
 use Rattle.meaning.specs.Acts.{leaves, hands}
 use Rattle.meaning.specs.Checks.{Check, calls, decide_of}
 
@@ -25,17 +24,17 @@ abbrev pub decided : List ℕ → Came → List ℕ → List ℕ → List ℕ �
 decided m a c s r = decide_of m a c s (length r)
 
 abbrev pub image_after : Decision → List ℕ → List ℕ → List ℕ
-image_after (Stop n w z) m s = m
-image_after (Go act z) m s = leaves m (geometry_of m) s act
+image_after (Err x) m s = m
+image_after (Ok x) m s = leaves m (geometry_of m) s x.act
 
 -- "A GOOD read or XDREAD returns its byte count; bytes past it stay." A1: 53h "counts it" too
 abbrev pub room_after : Decision → List ℕ → List ℕ → List ℕ → List ℕ
-room_after (Stop n w z) m s r = r
-room_after (Go act z) m s r = put r 0 (hands m (geometry_of m) s act)
+room_after (Err x) m s r = r
+room_after (Ok x) m s r = put r 0 (hands m (geometry_of m) s x.act)
 
 abbrev pub outcome_after : Decision → List ℕ → List ℕ → Outcome
-outcome_after (Stop n w z) m s = outcome_of z 0
-outcome_after (Go act z) m s = outcome_of z (length (hands m (geometry_of m) s act))
+outcome_after (Err x) m s = outcome_of x.answer 0
+outcome_after (Ok x) m s = outcome_of x.answer (length (hands m (geometry_of m) s x.act))
 
 unfoldable pub step_image : List ℕ → Came → List ℕ → List ℕ → List ℕ → List ℕ
 step_image m a c s r = image_after (decided m a c s r) m s

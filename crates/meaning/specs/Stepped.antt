@@ -12,8 +12,7 @@ use Rattle.sense.specs.declared.Outcome.{Outcome}
 use Rattle.sense.specs.Sense.{outcome_of}
 use Rattle.meaning.specs.declared.Act.{Act}
 use Rattle.meaning.specs.declared.Seen.{Seen}
-use Rattle.meaning.specs.declared.Decision.{Decision}
-use Rattle.meaning.specs.declared.Decision.TheVariants.{Stop, Go}
+use Rattle.meaning.specs.Decision.{Decision, stop, go}
 use Rattle.meaning.specs.Acts.{leaves, hands}
 use Rattle.meaning.specs.Step.{decided, image_after, room_after, outcome_after, step_image, step_room, step_outcome, reset_answer, reset_image, mark_answer, mark_image}
 
@@ -35,7 +34,7 @@ pub record Marked (m : List ℕ) (a : Came) (state : ℕ) (z : Answer) (m' : Lis
 
 module _ (m : List ℕ) (a : Came) (c s r : List ℕ) where
   -- a check decided
-  pub stopped : (n : ℕ) (w : Seen) (z : Answer) (o : Outcome) → decided m a c s r ≡ Stop n w z → o ≡ outcome_of z 0 → Stepped m a c s r o m r
+  pub stopped : (n : ℕ) (w : Seen) (z : Answer) (o : Outcome) → decided m a c s r ≡ stop n w z → o ≡ outcome_of z 0 → Stepped m a c s r o m r
   unfolding step_outcome step_image step_room
   stopped n w z o e q =
       record {
@@ -45,7 +44,7 @@ module _ (m : List ℕ) (a : Came) (c s r : List ℕ) where
       }
 
   -- none did
-  pub went : (act : Act) (z : Answer) (g : Geometry) (k : ℕ) (o : Outcome) (m' r' : List ℕ) → decided m a c s r ≡ Go act z → g ≡ geometry_of m
+  pub went : (act : Act) (z : Answer) (g : Geometry) (k : ℕ) (o : Outcome) (m' r' : List ℕ) → decided m a c s r ≡ go act z → g ≡ geometry_of m
       → m' ≡ leaves m g s act → r' ≡ put r 0 (hands m g s act) → k ≡ length (hands m g s act) → o ≡ outcome_of z k → Stepped m a c s r o m' r'
   unfolding step_outcome step_image step_room
   went act z g k o m' r' e h p q l u =

@@ -1,6 +1,6 @@
 -- Big-endian numbers in a list of bytes.
-use Rattle.std.specs.Prelude.{◌≡◌, refl, ◌⊎◌, ℕ, zero, suc, ◌+◌, ◌*◌, ◌/◌, ◌%◌, ◌^◌, ◌≤◌, ◌<◌, List, [], ◌∷◌, ◌++◌, length, get_or}
-use Rattle.std.proofs.Common.{sym, ap, ap₂, ◌∙◌, pow-suc, mod-eq_of_lt, zero-lt-suc, mod-lt, mul_assoc, zero-add, div-one, arith, length-append}
+use Rattle.std.specs.Prelude.{◌≡◌, refl, ◌⊎◌, ℕ, zero, suc, ◌+◌, ◌-◌, ◌*◌, ◌/◌, ◌%◌, ◌^◌, ◌≤◌, ◌<◌, List, [], ◌∷◌, ◌++◌, length, get_or, take, drop}
+use Rattle.std.proofs.Common.{sym, suc-add, take_all, ap, ap₂, ◌∙◌, pow-suc, mod-eq_of_lt, zero-lt-suc, mod-lt, mul_assoc, zero-add, div-one, arith, length-append}
 use Rattle.std.proofs.Math.Nat.{suc_inj, pow-succ', mod-one, one-le-pow}
 use Rattle.std.proofs.Math.Arith.{digits_lt, digits_div, digits_mod, mod-mul}
 use Rattle.octets.specs.Octets.{Octets, octets_tail, octets_part}
@@ -121,6 +121,19 @@ front_be s t n e k a l =
     sym (own s) ∙ ap (λ (xs : List ℕ). be k xs a) e ∙ own t
 
 -- ---- as the code writes it
+
+-- the last n of eight bytes
+drop_to_be : (m n v : ℕ) → drop m (to_be (m + n) v) ≡ to_be n v
+unfolding to_be
+drop_to_be zero n v = ap (λ (k : ℕ). to_be k v) (zero-add n)
+drop_to_be (suc m) n v = rw suc-add (drop_to_be m n v)
+
+pub last_to_be : (n v : ℕ) → n ≤ 8 → take (8 - (8 - n)) (drop (8 - n) (to_be 8 v)) ≡ to_be n v
+last_to_be n v h =
+    let e : 8 ≡ 8 - n + n = omega arith in
+    ap (λ (k : ℕ). take (8 - (8 - n)) (drop (8 - n) (to_be k v))) e
+    ∙ ap (take (8 - (8 - n))) (drop_to_be (8 - n) n v)
+    ∙ take_all (8 - (8 - n)) (to_be n v) (omega (arith, length_to_be n v))
 
 pub to_be1 : (v : ℕ) → to_be 1 v ≡ v % 256 ∷ []
 unfolding to_be

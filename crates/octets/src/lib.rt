@@ -17,40 +17,34 @@ ghost use Rattle.octets.specs.Operands.{xor_all};
 ghost use Rattle.octets.specs.Eight.{eight_parts, EightIn};
 
 pub use new::keep_new;
-pub use number::{be2, be3, be4, byte, put_be4, to_be4};
+pub use number::{be, byte, put_be, to_be};
 
-// The last four bytes of a number, the highest first.
-#[derive(Clone, Copy)]
-pub struct Four(pub u8, pub u8, pub u8, pub u8);
-
-// XORs src into dst. It has no locals but an index, so its stack does not grow with the block.
+// XORs src into dst. It has no locals but what its loop goes by, so its stack does not grow with the block. The loops here go by `enumerate`:
+// of what `zip` takes from `iter_mut` a proof knows nothing afterwards.
+#[tactic(auto, using(crate::specs::Xor::xor_more, crate::specs::Xor::xor_nil))]
 pub fn xor_into(dst: &mut [u8], src: &[u8])
     requires { length dst.old ≡ length src.now }
     ensures { dst.new ≡ dst.old ⊻ src.now }
 {
-    let n = dst.len();
-    let mut i = 0;
-    while i < n {
-        dst[i] = dst[i] ^ src[i];
-        i += 1;
+    for (i, d) in dst.iter_mut().enumerate() {
+        *d ^= src[i];
     }
 }
 
-// XORs a and b into dst, in one pass over it.
+// XORs a and b into dst, in one pass over it. One function that takes the XOR as a closure would be no shorter: each loop is three
+// lines, and the clauses on such a closure are longer.
 fn xor_two_into(dst: &mut [u8], a: &[u8], b: &[u8])
     requires { (length dst.old ≡ length a.now) × (length dst.old ≡ length b.now) }
     ensures { dst.new ≡ dst.old ⊻ (a.now ⊻ b.now) }
 {
-    let n = dst.len();
-    let mut i = 0;
-    while i < n {
-        dst[i] = dst[i] ^ (a[i] ^ b[i]);
-        i += 1;
+    for (i, d) in dst.iter_mut().enumerate() {
+        *d ^= a[i] ^ b[i];
     }
 }
 
 // XORs a, b, c and d into dst, two in a pass: dst is loaded and stored twice, not four times. A loop over all five blocks would take
 // more stack, where C calls it, than an interrupt handler has.
+#[tactic(auto, using(crate::specs::Xor::xor_regroups, crate::specs::Xor::xor_nil), unfolding(crate::specs::Operands::xor_all))]
 pub fn xor_four_into(dst: &mut [u8], a: &[u8], b: &[u8], c: &[u8], d: &[u8])
     requires { (length dst.old ≡ length a.now) × (length dst.old ≡ length b.now) × (length dst.old ≡ length c.now) × (length dst.old ≡ length d.now) }
     ensures { dst.new ≡ dst.old ⊻ xor_all (a.now ∷ b.now ∷ c.now ∷ d.now ∷ []) }
@@ -64,15 +58,13 @@ pub fn xor_over(dst: &mut [u8], a: &[u8], b: &[u8])
     requires { (length dst.old ≡ length a.now) × (length dst.old ≡ length b.now) }
     ensures { dst.new ≡ a.now ⊻ b.now }
 {
-    let n = dst.len();
-    let mut i = 0;
-    while i < n {
-        dst[i] = a[i] ^ b[i];
-        i += 1;
+    for (i, d) in dst.iter_mut().enumerate() {
+        *d = a[i] ^ b[i];
     }
 }
 
-// Writes over dst the XOR of the bytes of xs from eight indices on, in one pass: dst is stored once, and not loaded.
+// Writes over dst the XOR of the bytes of xs from eight indices on, in one pass: dst is stored once, and not loaded. The indices
+// are no array: the clauses name each, and would be longer.
 pub fn xor_eight_over(
     dst: &mut [u8],
     xs: &[u8],
@@ -88,41 +80,32 @@ pub fn xor_eight_over(
     requires { EightIn xs.now a b c d e f g h (length dst.old) }
     ensures { dst.new ≡ xor_all (eight_parts xs.now a b c d e f g h (length dst.old)) }
 {
-    let n = dst.len();
-    let mut i = 0;
-    while i < n {
+    for (i, x) in dst.iter_mut().enumerate() {
         let last = xs[e + i] ^ (xs[f + i] ^ (xs[g + i] ^ xs[h + i]));
-        dst[i] = xs[a + i] ^ (xs[b + i] ^ (xs[c + i] ^ (xs[d + i] ^ last)));
-        i += 1;
+        *x = xs[a + i] ^ (xs[b + i] ^ (xs[c + i] ^ (xs[d + i] ^ last)));
     }
 }
 
-// Copies src over dst.
+// Copies src over dst. It stays beside std's `copy_from_slice`, as `fill_zero` and `least` beside `fill` and `min`, since each is
+// promised by name (`copy_into_once` and so on).
 pub fn copy_into(dst: &mut [u8], src: &[u8])
     requires { length dst.old ≡ length src.now }
     ensures { dst.new ≡ src.now }
 {
-    let n = dst.len();
-    let mut i = 0;
-    while i < n {
-        dst[i] = src[i];
-        i += 1;
-    }
+    dst.copy_from_slice(src);
 }
 
 // Fills dst with zeros.
 pub fn fill_zero(dst: &mut [u8])
     ensures { dst.new ≡ replicate (length dst.old) 0 }
 {
-    let n = dst.len();
-    let mut i = 0;
-    while i < n {
-        dst[i] = 0;
-        i += 1;
-    }
+    dst.fill(0);
 }
 
+// The forms at an index, from here on, are one or two lines each: one that takes the leaf as a closure would be no shorter.
+//
 // XORs src into the bytes of xs from index at on.
+#[tactic(auto, using(crate::specs::Put::put_back, crate::specs::Part::mid_part))]
 pub fn xor_at(xs: &mut [u8], at: usize, src: &[u8])
     requires { at + length src.now ≤ length xs.old }
     ensures { xs.new ≡ put xs.old at (part xs.old at (length src.now) ⊻ src.now) }
@@ -132,15 +115,16 @@ pub fn xor_at(xs: &mut [u8], at: usize, src: &[u8])
 }
 
 // Writes src over the bytes of xs from index at on.
+#[tactic(auto, using(crate::specs::Put::put_back))]
 pub fn put_at(xs: &mut [u8], at: usize, src: &[u8])
     requires { at + length src.now ≤ length xs.old }
     ensures { xs.new ≡ put xs.old at src.now }
 {
-    let n = src.len();
-    copy_into(&mut xs[at..at + n], src);
+    copy_into(&mut xs[at..at + src.len()], src);
 }
 
 // XORs the bytes of xs from index at on into acc.
+#[tactic(auto, using(crate::specs::Part::mid_part))]
 pub fn xor_from(acc: &mut [u8], xs: &[u8], at: usize)
     requires { at + length acc.old ≤ length xs.now }
     ensures { acc.new ≡ acc.old ⊻ part xs.now at (length acc.old) }
@@ -150,6 +134,7 @@ pub fn xor_from(acc: &mut [u8], xs: &[u8], at: usize)
 }
 
 // XORs the bytes of xs from four indices on into acc.
+#[tactic(auto, using(crate::specs::Part::mid_part))]
 pub fn xor_four_from(acc: &mut [u8], xs: &[u8], a: usize, b: usize, c: usize, d: usize)
     requires { (a + length acc.old ≤ length xs.now) × (b + length acc.old ≤ length xs.now) × (c + length acc.old ≤ length xs.now) × (d + length acc.old ≤ length xs.now) }
     ensures { acc.new ≡ acc.old ⊻ xor_all (part xs.now a (length acc.old) ∷ part xs.now b (length acc.old) ∷ part xs.now c (length acc.old) ∷ part xs.now d (length acc.old) ∷ []) }
@@ -165,6 +150,7 @@ pub fn xor_four_from(acc: &mut [u8], xs: &[u8], a: usize, b: usize, c: usize, d:
 }
 
 // Writes over acc the XOR of the bytes of xs from index a on and those of ys from index b on.
+#[tactic(auto, using(crate::specs::Part::mid_part))]
 pub fn xor_both(acc: &mut [u8], xs: &[u8], a: usize, ys: &[u8], b: usize)
     requires { (a + length acc.old ≤ length xs.now) × (b + length acc.old ≤ length ys.now) }
     ensures { acc.new ≡ part xs.now a (length acc.old) ⊻ part ys.now b (length acc.old) }
@@ -174,6 +160,7 @@ pub fn xor_both(acc: &mut [u8], xs: &[u8], a: usize, ys: &[u8], b: usize)
 }
 
 // Copies the bytes of xs from index at on over acc.
+#[tactic(auto, using(crate::specs::Part::mid_part))]
 pub fn copy_from(acc: &mut [u8], xs: &[u8], at: usize)
     requires { at + length acc.old ≤ length xs.now }
     ensures { acc.new ≡ part xs.now at (length acc.old) }
@@ -186,5 +173,5 @@ pub fn copy_from(acc: &mut [u8], xs: &[u8], at: usize)
 pub fn least(a: usize, b: usize) -> usize
     ensures { result ≡ min a b }
 {
-    if a < b { a } else { b }
+    a.min(b)
 }

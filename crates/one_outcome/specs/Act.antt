@@ -9,7 +9,7 @@ entry_of_once = equation
 pub carry_out_once : Only act.carry_out.Reads.Post (λ _ r s. s.0.now & s.1.1.1.1.0.now & r)
 carry_out_once = from (λ _ _ _ _ p. p.0 and p.1 and p.2)
 
-pub read_once : Only inner.read (λ _ r s. s.1.1.1.0.now & r)
+pub read_once : Only inner.read (λ _ r s. s.1.1.0.now & r)
 read_once = both
 
 pub write_once : Only inner.write (λ _ _ s. s.0.now)

@@ -15,22 +15,22 @@ pub decode_once : Only command.Command.decode.Reads.Post (λ _ r _. r)
 decode_once = bounded
 
 pub mirror_once : Only command.Command.mirror.Reads.Post (λ _ r _. r)
-mirror_once = bounded
+mirror_once = equation
 
 pub ndisc_once : Only command.Command.ndisc.Reads.Post (λ _ r _. r)
-ndisc_once = bounded
+ndisc_once = equation
 
 pub sec_once : Only command.Command.sec.Reads.Post (λ _ r _. r)
 sec_once = bounded
 
 pub int_once : Only command.Command.int.Reads.Post (λ _ r _. r)
-int_once = bounded
+int_once = equation
 
 pub list_sec_once : Only command.Command.list_sec.Reads.Post (λ _ r _. r)
 list_sec_once = bounded
 
 pub disable_once : Only command.Command.disable.Reads.Post (λ _ r _. r)
-disable_once = bounded
+disable_once = equation
 
 pub own_once : Only command.Command.own.Reads.Post (λ _ r _. r)
 own_once = bounded

@@ -3,8 +3,11 @@ use Rattle.decide_one.proofs as decide_one
 use Rattle.decide_one.proofs.Contracts as inner
 use Rattle.one_outcome.specs.Only.{Only, equation}
 
-pub span_once : Only decide_one.span.Reads.Post (λ _ r _. r)
+pub span_once : Only decide_one.Call.span.Reads.Post (λ _ r _. r)
 span_once = equation
+
+pub bytes_once : Only decide_one.Call.bytes.Reads.Post (λ _ r _. r)
+bytes_once = equation
 
 pub xdread_once : Only decide_one.xdread.Reads.Post (λ _ r _. r)
 xdread_once = equation

@@ -12,20 +12,17 @@ in_turn_once = equation
 pub at_once_once : Only gather.at_once.Reads.Post (λ _ _ s. s.0.now)
 at_once_once = equation
 
-pub all_once : Only inner.all (λ _ _ s. s.0.now)
-all_once = equation
+pub start_once : Only inner.start (λ _ r _. r)
+start_once = equation
 
-pub seed_once : Only inner.seed (λ _ _ s. s.0.now)
+pub find_all_once : Only inner.find_all (λ _ _ s. s.1.0.now)
+find_all_once = equation
+
+pub seed_once : Only inner.seed (λ _ _ s. s.1.0.now)
 seed_once = equation
 
-pub xor_rest_once : Only inner.xor_rest (λ _ _ s. s.0.now)
+pub xor_rest_once : Only inner.xor_rest (λ _ _ s. s.1.0.now)
 xor_rest_once = equation
 
 pub xor_int_once : Only inner.xor_int (λ _ _ s. s.0.now)
 xor_int_once = equation
-
-pub find_all_once : Only inner.find_all (λ _ _ s. s.1.1.1.1.1.0.now)
-find_all_once = equation
-
-pub start_once : Only inner.start (λ _ r _. r)
-start_once = equation

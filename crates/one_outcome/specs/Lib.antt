@@ -7,6 +7,7 @@ pub mod Slots
 pub mod Image
 pub mod Sense
 pub mod Command
+pub mod Meaning
 pub mod List_entries
 pub mod Decide_one
 pub mod Decide_two

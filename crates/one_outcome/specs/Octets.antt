@@ -1,4 +1,6 @@
 -- The contract of each public function of `octets` allows one outcome only.
+use Rattle.std.specs.Prelude.{ℕ}
+use Rattle.std.proofs.Common.{Fits, w64}
 use Rattle.octets.proofs as octets
 use Rattle.one_outcome.specs.Only.{Only, ◌&◌, ◌and◌, from, equation, bounded}
 
@@ -13,12 +15,6 @@ xor_over_once = equation
 
 pub xor_eight_over_once : Only octets.xor_eight_over.Reads.Post (λ _ _ s. s.0.now)
 xor_eight_over_once = equation
-
-pub copy_into_once : Only octets.copy_into.Reads.Post (λ _ _ s. s.0.now)
-copy_into_once = equation
-
-pub fill_zero_once : Only octets.fill_zero.Reads.Post (λ _ _ s. s.0.now)
-fill_zero_once = equation
 
 pub xor_at_once : Only octets.xor_at.Reads.Post (λ _ _ s. s.0.now)
 xor_at_once = equation
@@ -38,26 +34,26 @@ xor_both_once = equation
 pub copy_from_once : Only octets.copy_from.Reads.Post (λ _ _ s. s.0.now)
 copy_from_once = equation
 
-pub least_once : Only octets.least.Reads.Post (λ _ r _. r)
-least_once = equation
-
 pub byte_once : Only octets.byte.Reads.Post (λ _ r _. r)
 byte_once = bounded
-
-pub be2_once : Only octets.be2.Reads.Post (λ _ r _. r)
-be2_once = bounded
-
-pub be3_once : Only octets.be3.Reads.Post (λ _ r _. r)
-be3_once = bounded
-
-pub be4_once : Only octets.be4.Reads.Post (λ _ r _. r)
-be4_once = bounded
 
 pub keep_new_once : Only octets.keep_new.Reads.Post (λ _ r s. r & s.0.now)
 keep_new_once = from (λ κs a r s p. p.0 and p.1)
 
-pub put_be4_once : Only octets.put_be4.Reads.Post (λ _ _ s. s.0.now)
-put_be4_once = equation
+pub copy_into_once : Only octets.copy_into.Reads.Post (λ _ _ s. s.0.now)
+copy_into_once = equation
 
-pub to_be4_once : Only octets.to_be4.Reads.Post (λ _ r _. r)
-to_be4_once = equation
+pub fill_zero_once : Only octets.fill_zero.Reads.Post (λ _ _ s. s.0.now)
+fill_zero_once = equation
+
+pub least_once : Only octets.least.Reads.Post (λ _ r _. r)
+least_once = equation
+
+pub be_once : (n : ℕ) (f : Fits w64 n) → Only (octets.be.Reads.Post n f) (λ _ r _. r)
+be_once n f = bounded
+
+pub to_be_once : (n : ℕ) (f : Fits w64 n) → Only (octets.to_be.Reads.Post n f) (λ _ r _. r)
+to_be_once n f = equation
+
+pub put_be_once : (n : ℕ) (f : Fits w64 n) → Only (octets.put_be.Reads.Post n f) (λ _ _ s. s.0.now)
+put_be_once n f = equation

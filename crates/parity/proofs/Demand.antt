@@ -1,8 +1,7 @@
 -- Demand 3: the sums of the rows after any run of calls, and that a drive's blocks come back.
-use Rattle.std.specs.Prelude.{ℕ, ◌+◌, ◌≤◌, ◌<◌, ◌≡◌, refl, List, [], ◌∷◌, ◌++◌, eqb, length, replicate}
+use Rattle.std.specs.Prelude.{ℕ, ◌+◌, ◌≤◌, ◌<◌, Bool, not, ◌≡◌, refl, List, [], ◌∷◌, ◌++◌, length, replicate, Some}
 use Rattle.std.proofs.Common.{arith, sym, ap, ap₂, subst, ◌∙◌}
 use Rattle.std.proofs.Math.Path.{fun_ext}
-use Rattle.std.proofs.Math.Option.{some}
 use Rattle.octets.specs.Octets.{Octets}
 use Rattle.octets.specs.Xor.{◌⊻◌, xor_nil, xor_cancels}
 use Rattle.geometry.specs.declared.Geometry.{Geometry}
@@ -21,8 +20,7 @@ use Rattle.sense.specs.declared.Answer.{Answer}
 use Rattle.meaning.specs.declared.Span.{Span}
 use Rattle.meaning.specs.declared.Act.TheVariants.{XdRead, XdWriteRead}
 use Rattle.meaning.specs.Acts.{hands}
-use Rattle.meaning.specs.declared.Decision.{Decision}
-use Rattle.meaning.specs.declared.Decision.TheVariants.{Go}
+use Rattle.meaning.specs.Decision.{Decision, go}
 use Rattle.meaning.specs.Step.{decided, step_image, reset_image}
 use Rattle.meaning.specs.Calls.{Call, command, reset, marking, after_call, after_calls}
 use Rattle.grants.specs.Granted.{allowed_at}
@@ -90,8 +88,8 @@ ledger_is_results m g start xs = run_tallies g xs m [] start.valid (waiting_none
 
 -- what XDREAD hands out is the newest unread line at its drive and block, whole
 pub read_is_newest : (m : List ℕ) (g : Geometry) → Start m g → (xs : List Call) (a : Came) (c s r : List ℕ) (x : Span) (i : ℕ) (y : Answer)
-    → decided (after_calls xs m) a c s r ≡ Go (XdRead x i) y
-    → (ρ : Result) × (first_of (answers x.drive x.block.0) (waiting (ledger xs m)) ≡ some ρ) × (hands (after_calls xs m) g s (XdRead x i) ≡ ρ.bytes)
+    → decided (after_calls xs m) a c s r ≡ go (XdRead x i) y
+    → (ρ : Result) × (first_of (answers x.drive x.block.0) (waiting (ledger xs m)) ≡ Some ρ) × (hands (after_calls xs m) g s (XdRead x i) ≡ ρ.bytes)
 read_is_newest m g start xs a c s r x i y e =
     let t = after_calls xs m in
     let h = run_shelf g xs m start.valid in
@@ -99,10 +97,10 @@ read_is_newest m g start xs a c s r x i y e =
     (result_at t g i, ap (first_of (answers x.drive x.block.0)) (ledger_is_results m g start xs) ∙ w.0, w.1)
 
 -- what a 53h hands out is the line that it leaves, read in the same step
-pub xdwriteread_is_read : (m : List ℕ) (g : Geometry) → Start m g → (xs : List Call) (a : Came) (c s r : List ℕ) (x : Span) (disable : ℕ) (y : Answer)
-    → decided (after_calls xs m) a c s r ≡ Go (XdWriteRead x disable) y
+pub xdwriteread_is_read : (m : List ℕ) (g : Geometry) → Start m g → (xs : List Call) (a : Came) (c s r : List ℕ) (x : Span) (disable : Bool) (y : Answer)
+    → decided (after_calls xs m) a c s r ≡ go (XdWriteRead x disable) y
     → ledger (xs ++ command a c s r ∷ []) m
-    ≡ line (result_in 1 x (hands (after_calls xs m) g s (XdWriteRead x disable))) (eqb disable 0) Read ∷ ledger xs m
+    ≡ line (result_in 1 x (hands (after_calls xs m) g s (XdWriteRead x disable))) (not disable) Read ∷ ledger xs m
 xdwriteread_is_read m g start xs a c s r x disable y e =
     let t = after_calls xs m in
     let es = ledger xs m in

@@ -1,6 +1,6 @@
 -- What one act does: the unread lines stay the retained results, and a row's sum stays what it was but for what is owed.
-use Rattle.std.specs.Prelude.{ℕ, ◌*◌, ◌≤◌, ◌<◌, Bool, true, false, cond, ◌≡◌, refl, List, [], ◌∷◌, eqb, length}
-use Rattle.std.proofs.Common.{arith, sym, ap, ap₂, ◌∙◌, eq-eqb, eqb-true}
+use Rattle.std.specs.Prelude.{ℕ, ◌*◌, ◌≤◌, ◌<◌, Bool, true, false, not, cond, ◌≡◌, refl, List, [], ◌∷◌, length}
+use Rattle.std.proofs.Common.{arith, sym, ap, ap₂, ◌∙◌}
 use Rattle.std.proofs.Math.Bool.{and-true}
 use Rattle.octets.specs.Xor.{◌⊻◌, xor_nil, length_xor_le, xor_commutes, xor_regroups, xor_cancels, xor_meets, xor_again}
 use Rattle.geometry.specs.declared.Geometry.{Geometry}
@@ -16,7 +16,7 @@ use Rattle.sums.specs.Share.{share, length_share}
 use Rattle.meaning.specs.declared.Span.{Span}
 use Rattle.meaning.specs.declared.Act.{Act}
 use Rattle.meaning.specs.declared.Act.TheVariants.{Read as ToRead, Write, XpWrite, XdRead, Couple, Retain, Rebuild, Regenerate, XdWriteRead}
-use Rattle.meaning.specs.Acts.{blocks_of, over, Effect, effect_of, leaves}
+use Rattle.meaning.specs.Acts.{blocks_of, over, result_of, passed_on, data_over, Effect, effect_of, leaves}
 use Rattle.meaning.specs.Allowed.{Blocks, Filled, Allowed}
 use Rattle.meaning.specs.Lengths.{length_blocks}
 use Rattle.demands_one_two.specs.Fine.{fine}
@@ -72,12 +72,12 @@ module _ (m : List ℕ) (g : Geometry) (h : Shelf m g) (s : List ℕ) (es : List
       ∙ xor_cancels sum δ (length_δ x (s ⊻ u))
 
   -- data written over blocks, or not, and a line that owes the old bytes XOR the new ones where it is
-  data_sum : (x : Span) (writes : Bool) (one : Line) → is_owed one ≡ writes → (writes ≡ true → in_row g r one ≡ share g x.block.0 (blocks_of m g x ⊻ s) r)
-      → (sum ⊻ moved m g (cond writes (over x s ∷ []) []) r) ⊻ owed g r (one ∷ es) ≡ sum ⊻ owed g r es
-  data_sum x true one t e =
+  data_sum : (x : Span) (ndisc : Bool) (one : Line) → is_owed one ≡ not ndisc → (ndisc ≡ false → in_row g r one ≡ share g x.block.0 (blocks_of m g x ⊻ s) r)
+      → (sum ⊻ moved m g (data_over x ndisc s) r) ⊻ owed g r (one ∷ es) ≡ sum ⊻ owed g r es
+  data_sum x false one t e =
       let δ = share g x.block.0 (blocks_of m g x ⊻ s) r in
       ap₂ ◌⊻◌ (ap (◌⊻◌ sum) (whole x δ)) (owed_hit g r one es t ∙ ap (λ (o : List ℕ). o ⊻ owed g r es) (e refl)) ∙ xor_meets sum δ (owed g r es) (length_δ x (blocks_of m g x ⊻ s))
-  data_sum x false one t e = quiet (one ∷ es) (owed_miss g r one es t)
+  data_sum x true one t e = quiet (one ∷ es) (owed_miss g r one es t)
 
 -- ---- every act: what it makes unread, and what it writes
 
@@ -108,19 +108,19 @@ module _ (m : List ℕ) (g : Geometry) (h : Shelf m g) (s : List ℕ) (es : List
   act_noted room (Couple x y mirror) al = (
     λ e. e,
     λ fair r l. ap (λ (o : List ℕ). o ⊻ owed g r es)
-        (ap (λ (c : Bool). row_sum m g r ⊻ moved m g (over y (cond c (blocks_of m g y ⊻ cond c (s ⊻ blocks_of m g x) s) (cond c (s ⊻ blocks_of m g x) s)) ∷ over x s ∷ []) r) (eq-eqb mirror 0 fair.0)
+        (ap (λ (c : Bool). row_sum m g r ⊻ moved m g (over y (passed_on m g x y c s) ∷ over x s ∷ []) r) fair.0
         ∙ couple_sum m g h s es r l x y al.0 al.1 al.2 al.4 fair.1),
   )
   act_noted room (Retain x i mirror ndisc) al = (
     more _ _,
-    λ fair r l. data_sum m g h s es r l x (eqb ndisc 0) _ (and-true (eqb ndisc 0))
-        (λ t. turned x _ (ap (λ (c : Bool). cond c (s ⊻ blocks_of m g x) s) (eq-eqb mirror 0 (fair (eqb-true ndisc 0 t)))) r),
+    λ fair r l. data_sum m g h s es r l x ndisc _ (and-true (not ndisc))
+        (λ t. turned x _ (ap (λ (c : Bool). result_of m g x c s) (fair t)) r),
   )
   act_noted room (Rebuild x j) al = (λ e. e, λ fair. absurd fair)
   act_noted room (Regenerate x j i) al = (more _ _, λ fair r l. quiet m g h s es r l _ (owed_miss g r _ es refl))
   act_noted room (XdWriteRead x disable) al = (
     λ e. waiting_miss _ es refl ∙ e,
-    λ fair r l. data_sum m g h s es r l x (eqb disable 0) _ (and-true (eqb disable 0)) (λ t. turned x _ refl r),
+    λ fair r l. data_sum m g h s es r l x disable _ (and-true (not disable)) (λ t. turned x _ refl r),
   )
 
   pub act_waiting : (room : ℕ) (act : Act) → Allowed m g s room act → waiting es ≡ results m g → waiting (noted m g s act es) ≡ results (leaves m g s act) g

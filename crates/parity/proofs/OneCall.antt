@@ -1,5 +1,5 @@
 -- What one call does: the unread lines stay the retained results, and a row's sum stays what it was but for what is owed.
-use Rattle.std.specs.Prelude.{ℕ, ◌<◌, ◌≡◌, refl, List}
+use Rattle.std.specs.Prelude.{ℕ, ◌<◌, ◌≡◌, refl, List, Ok, Err}
 use Rattle.std.proofs.Common.{sym, ap, ap₂, ◌∙◌}
 use Rattle.std.proofs.Math.Path.{subst}
 use Rattle.octets.specs.Xor.{◌⊻◌}
@@ -15,8 +15,7 @@ use Rattle.image.specs.Shelf.{Shelf, shelf_frame}
 use Rattle.sums.specs.Row.{row_sum}
 use Rattle.sense.specs.declared.Answer.{Answer}
 use Rattle.meaning.specs.declared.Act.{Act}
-use Rattle.meaning.specs.declared.Decision.{Decision}
-use Rattle.meaning.specs.declared.Decision.TheVariants.{Stop, Go}
+use Rattle.meaning.specs.Decision.{Decision, go}
 use Rattle.meaning.specs.Acts.{leaves}
 use Rattle.meaning.specs.Allowed.{Allowed}
 use Rattle.meaning.specs.Checks.{calls}
@@ -37,18 +36,18 @@ module _ (m : List ℕ) (g : Geometry) (h : Shelf m g) (es : List Line) where
   module _ (s : List ℕ) (room : ℕ) where
     -- what a decision to go grants
     abbrev Granted : Decision → Type 0
-    Granted d = (act : Act) (x : Answer) → d ≡ Go act x → Allowed m g s room act
+    Granted d = (act : Act) (x : Answer) → d ≡ go act x → Allowed m g s room act
 
     pub decision_tallies : (d : Decision) → Granted d → Tallies g m es → Tallies g (image_after d m s) (noted_by d m s es)
-    decision_tallies (Stop n w x) al e = e
-    decision_tallies (Go act x) al e =
-        subst (λ (k : Geometry). Tallies g (leaves m k s act) (noted m k s act es)) (sym h.header) (act_waiting m g h s es room act (al act x refl) e)
+    decision_tallies (Err x) al e = e
+    decision_tallies (Ok x) al e =
+        subst (λ (k : Geometry). Tallies g (leaves m k s x.act) (noted m k s x.act es)) (sym h.header) (act_waiting m g h s es room x.act (al x.act x.answer refl) e)
 
     pub decision_sum : (d : Decision) → Granted d → FairBy d es s → SumKept g m es (image_after d m s) (noted_by d m s es)
-    decision_sum (Stop n w x) al fair r l = refl
-    decision_sum (Go act x) al fair r l =
-        subst (λ (k : Geometry). row_sum (leaves m k s act) g r ⊻ owed g r (noted m k s act es) ≡ row_sum m g r ⊻ owed g r es) (sym h.header)
-        (act_sum m g h s es r l room act (al act x refl) fair)
+    decision_sum (Err x) al fair r l = refl
+    decision_sum (Ok x) al fair r l =
+        subst (λ (k : Geometry). row_sum (leaves m k s x.act) g r ⊻ owed g r (noted m k s x.act es) ≡ row_sum m g r ⊻ owed g r es) (sym h.header)
+        (act_sum m g h s es r l room x.act (al x.act x.answer refl) fair)
 
   -- ---- a reset
 

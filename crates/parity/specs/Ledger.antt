@@ -1,6 +1,6 @@
 -- The ledger of a run: every result that a command left, newest first, and what became of it; the codes of 01 and of 02, A1, keep one
 -- ledger.
-use Rattle.std.specs.Prelude.{ℕ, Bool, true, false, cond, ◌≡◌, refl, eqb}
+use Rattle.std.specs.Prelude.{ℕ, Bool, true, false, not, cond, ◌≡◌, refl, eqb, Ok, Err}
 use mathlib.Core.List.{List, [], ◌∷◌, ◌++◌, Memᴰ}
 use Rattle.octets.specs.Xor.{◌⊻◌}
 use Rattle.folds.specs.Every.{every}
@@ -13,8 +13,7 @@ use Rattle.results.specs.Newest.{answers}
 use Rattle.meaning.specs.declared.Span.{Span}
 use Rattle.meaning.specs.declared.Act.{Act}
 use Rattle.meaning.specs.declared.Act.TheVariants.{Read as ToRead, Write, XpWrite, XdRead, Couple, Retain, Rebuild, Regenerate, XdWriteRead}
-use Rattle.meaning.specs.declared.Decision.{Decision}
-use Rattle.meaning.specs.declared.Decision.TheVariants.{Stop, Go}
+use Rattle.meaning.specs.Decision.{Decision}
 use Rattle.meaning.specs.Acts.{blocks_of, result_of, gathered}
 use Rattle.meaning.specs.Checks.{calls}
 use Rattle.meaning.specs.Step.{decided, untouched, target}
@@ -92,16 +91,16 @@ noted m g s (Write x) es = es
 noted m g s (XpWrite x) es = on_first (carriable x s) (become Carried) es
 noted m g s (XdRead x i) es = on_first (waits x.drive x.block.0) (become Read) es
 noted m g s (Couple x y mirror) es = es
-noted m g s (Retain x i mirror ndisc) es = line (result_in 1 x (result_of m g x mirror s)) (eqb ndisc 0) Unread ∷ es
+noted m g s (Retain x i mirror ndisc) es = line (result_in 1 x (result_of m g x mirror s)) (not ndisc) Unread ∷ es
 noted m g s (Rebuild x j) es = es
 noted m g s (Regenerate x j i) es = line (result_in 2 x (blocks_of m g x ⊻ gathered m g s x.count j)) false Unread ∷ es
 -- the bytes that it hands to the room
-noted m g s (XdWriteRead x disable) es = line (result_in 1 x (s ⊻ blocks_of m g x)) (eqb disable 0) Read ∷ es
+noted m g s (XdWriteRead x disable) es = line (result_in 1 x (s ⊻ blocks_of m g x)) (not disable) Read ∷ es
 
 -- a command that is not carried out leaves the ledger
 abbrev pub noted_by : Decision → List ℕ → List ℕ → List Line → List Line
-noted_by (Stop n w x) m s es = es
-noted_by (Go act x) m s es = noted m (geometry_of m) s act es
+noted_by (Err x) m s es = es
+noted_by (Ok x) m s es = noted m (geometry_of m) s x.act es
 
 abbrev pub noted_call : Call → List ℕ → List Line → List Line
 noted_call (command a c s r) m es = noted_by (decided m a c s r) m s es
@@ -128,16 +127,16 @@ FairAct es s (ToRead x) = Unit {0}
 FairAct es s (Write x) = ⊥
 FairAct es s (XpWrite x) = Carries es x s
 FairAct es s (XdRead x i) = Unit {0}
-FairAct es s (Couple x y mirror) = (mirror ≡ 0) × (x.block.0 ≡ y.block.0)
-FairAct es s (Retain x i mirror ndisc) = ndisc ≡ 0 → mirror ≡ 0
+FairAct es s (Couple x y mirror) = (mirror ≡ false) × (x.block.0 ≡ y.block.0)
+FairAct es s (Retain x i mirror ndisc) = ndisc ≡ false → mirror ≡ false
 FairAct es s (Rebuild x j) = ⊥
 FairAct es s (Regenerate x j i) = Unit {0}
 FairAct es s (XdWriteRead x disable) = Unit {0}
 
 -- asked only of a command that is carried out
 abbrev pub FairBy : Decision → List Line → List ℕ → Type 0
-FairBy (Stop n w x) es s = Unit {0}
-FairBy (Go act x) es s = FairAct es s act
+FairBy (Err x) es s = Unit {0}
+FairBy (Ok x) es s = FairAct es s x.act
 
 abbrev pub FairCall : Call → List ℕ → List Line → Type 0
 FairCall (command a c s r) m es = FairBy (decided m a c s r) es s

@@ -1,14 +1,12 @@
 -- Where the sums are zero, "one drive's blocks there may be overwritten with anything: REBUILD of them from every other drive once and
 -- nothing else, at the same blocks, all drives present, brings the old bytes back."
-use Rattle.std.specs.Prelude.{ℕ, suc, ◌*◌, ◌<◌, false, ◌≡◌, refl, List, [], map, length}
+use Rattle.std.specs.Prelude.{ℕ, suc, ◌*◌, ◌<◌, false, ◌≡◌, refl, List, [], map, length, Option, Some}
 use Rattle.std.proofs.Common.{arith, sym, ap, subst, ◌∙◌, inl, append-nil}
 use Rattle.std.proofs.lemmas.Simd.{map-map}
 use Rattle.std.proofs.lemmas.List.{length-map}
 use Rattle.octets.specs.Put.{put}
 use Rattle.octets.specs.PutPut.{put_put, put_part}
 use Rattle.octets.specs.Operands.{xor_all}
-use Rattle.folds.specs.declared.Found.{Found}
-use Rattle.folds.specs.declared.Found.TheVariants.{At}
 use Rattle.folds.specs.Each.{EachIs, each_mem, each_map, perm_length, perm_each}
 use Rattle.folds.specs.Least.{index}
 use Rattle.geometry.specs.declared.Geometry.{Geometry}
@@ -70,7 +68,7 @@ module _ (m : List ℕ) (g : Geometry) (h : Shelf m g) (up : AllPresent m g) (sm
   abbrev a : Came
   a = to (address_of m g d)
 
-  found : (e : ℕ) → e < g.d → source_drive t g a (address_of m g e) ≡ At e
+  found : (e : ℕ) → e < g.d → source_drive t g a (address_of m g e) ≡ Some e
   found e l = drive_same t m g f.placed same_front (address_of m g e) ∙ drive_found m g h.table_fine e l
 
   present : (e : ℕ) → e < g.d → failed t g e ≡ false
@@ -98,10 +96,10 @@ module _ (m : List ℕ) (g : Geometry) (h : Shelf m g) (up : AllPresent m g) (sm
   sources = map (source_at m g b) es
 
   named_rows : (e : ℕ) → Other g.d d e → named_blocks t g a n (source_at m g b e) ≡ blocks_at m g e b n
-  named_rows e o = ap (λ (x : Found). blocks_at t g (index x) b n) (found e o.0) ∙ same_rows e o
+  named_rows e o = ap (λ (x : Option ℕ). blocks_at t g (index x) b n) (found e o.0) ∙ same_rows e o
 
   -- what is gathered are the old bytes
-  gathers : ZeroSums m g b n → xor_all (operands t g a n sources 0 []) ≡ blocks_at m g d b n
+  gathers : ZeroSums m g b n → xor_all (operands t g a n sources false []) ≡ blocks_at m g d b n
   gathers zeros =
       ap xor_all (append-nil (map (named_blocks t g a n) sources)
       ∙ map-map (named_blocks t g a n) (source_at m g b) es
@@ -109,18 +107,18 @@ module _ (m : List ℕ) (g : Geometry) (h : Shelf m g) (up : AllPresent m g) (sm
       ∙ old_bytes m g f b n d range es w.every_other zeros
 
   -- and so it writes them
-  writes : ZeroSums m g b n → put t at (xor_all (operands t g a n sources 0 [])) ≡ m
+  writes : ZeroSums m g b n → put t at (xor_all (operands t g a n sources false [])) ≡ m
   writes zeros =
       ap (put t at) (gathers zeros)
       ∙ put_put m at ys (blocks_at m g d b n) (omega (arith, w.as_long, length_rows m g f b n d range d w.drive_in))
       ∙ put_part m at (n * g.l)
 
   does : (room : List ℕ)
-      → Stepped t a (rebuild_cdb sec count (length es)) (list_of b sources []) room (outcome_of Good 0) (put t at (xor_all (operands t g a n sources 0 []))) (put room 0 [])
+      → Stepped t a (rebuild_cdb sec count (length es)) (list_of b sources []) room (outcome_of Good 0) (put t at (xor_all (operands t g a n sources false []))) (put room 0 [])
   does room =
       let many : length sources ≡ length es = length-map es (source_at m g b) in
-      subst (λ (k : ℕ). Stepped t a (rebuild_cdb sec count k) (list_of b sources []) room (outcome_of Good 0) (put t at (xor_all (operands t g a n sources 0 []))) (put room 0 [])) many
-      (rebuild_exactly t g a d (record { shelf = shelf; found = found d w.drive_in; present = present d w.drive_in }) b n sources 0 []
+      subst (λ (k : ℕ). Stepped t a (rebuild_cdb sec count k) (list_of b sources []) room (outcome_of Good 0) (put t at (xor_all (operands t g a n sources false []))) (put room 0 [])) many
+      (rebuild_exactly t g a d (record { shelf = shelf; found = found d w.drive_in; present = present d w.drive_in }) b n sources false []
       (each_map (source_at m g b) (Other g.d d) (Names t g a (blocks d b n)) names es each) refl
       (omega (arith, many, how_many, f.placed.ranges.d_low)) (omega (arith, many, how_many, f.placed.ranges.d_high))
       (record { range = range; present = present d w.drive_in; some = w.some_rows }) room sec (together_byte sec w.together) count w.how_long (inl refl))

@@ -1,10 +1,9 @@
 -- "Something to retain and no empty slot": as many results are retained as there are slots.
-use Rattle.std.specs.Prelude.{ℕ, true, ◌≡◌, List, length}
+use Rattle.std.specs.Prelude.{ℕ, true, ◌≡◌, List, length, None}
 use Rattle.std.proofs.Math.Bool.{not}
 use Rattle.std.proofs.Common.{◌∙◌}
 use Rattle.std.proofs.Math.ListN.{length-map}
 use borrow.Author.Tests.{not-false}
-use Rattle.folds.specs.declared.Found.TheVariants.{Nothing}
 use Rattle.folds.specs.Count.{count_all}
 use Rattle.folds.proofs.Least.{least_nothing}
 use Rattle.geometry.specs.declared.Geometry.{Geometry}
@@ -20,7 +19,7 @@ module _ (s : List ℕ) (g : Geometry) (ok : slots_ok s g ≡ true) where
   unfolding results
   length_results = length-map (by_age s g) (result_at s g) ∙ length_ages g (slot_of s g) (right s g ok)
 
-  pub full : empty_slot s g ≡ Nothing → length (results s g) ≡ g.s
+  pub full : empty_slot s g ≡ None → length (results s g) ≡ g.s
   unfolding empty_slot
   full e =
       length_results

@@ -1,5 +1,5 @@
 -- A result that is retained and goes again: the image is as before but for the slot's data.
-use Rattle.std.specs.Prelude.{ℕ, ◌+◌, ◌≤◌, ◌<◌, true, ◌≡◌, refl, length, replicate}
+use Rattle.std.specs.Prelude.{ℕ, ◌+◌, ◌≤◌, ◌<◌, true, ◌≡◌, refl, length, replicate, Option, Some, None}
 use Rattle.std.proofs.Common.{arith, true≢false, subst, ◌∙◌, ⊎_elim, le-ltb, eq-eqb}
 use Rattle.std.proofs.Math.Path.{sym, ap}
 use mathlib.Core.List.{List, ◌++◌}
@@ -8,8 +8,6 @@ use Rattle.octets.specs.Put.{put, length_put}
 use Rattle.octets.specs.PutPut.{put_put, put_comm, put_append, put_part}
 use Rattle.octets.specs.Octets.{Octets, octets_part}
 use Rattle.octets.specs.Number.{to_be}
-use Rattle.folds.specs.declared.Found.{Found}
-use Rattle.folds.specs.declared.Found.TheVariants.{At, Nothing}
 use Rattle.folds.specs.Cases.{either, same}
 use Rattle.folds.specs.Every.{holds, every_of}
 use Rattle.geometry.specs.declared.Geometry.{Geometry}
@@ -41,7 +39,7 @@ none_falls g rank m n h =
 
 -- ---- in an empty slot
 
-module _ (s : List ℕ) (g : Geometry) (f : Framed s g) (ok : slots_ok s g ≡ true) (x : ℕ) (e : empty_slot s g ≡ At x) (r : Result) (w : Sound g r) where
+module _ (s : List ℕ) (g : Geometry) (f : Framed s g) (ok : slots_ok s g ≡ true) (x : ℕ) (e : empty_slot s g ≡ Some x) (r : Result) (w : Sound g r) where
   abbrev t : List ℕ
   t = filled s g x r
 
@@ -68,15 +66,15 @@ module _ (s : List ℕ) (g : Geometry) (f : Framed s g) (ok : slots_ok s g ≡ t
       let u = used_is g (used_in g (slot_of s g) + 1) (slot_of t g x) (gained s g f ok x e r w).new in
       every_of _ (u, (eq-eqb _ _ (ap (λ (z : Slot). z.drive) q), (eq-eqb _ _ (ap (λ (z : Slot). z.block.0) q), tt)))
 
-  newest_filled : newest_of t g r.drive r.block ≡ At x
+  newest_filled : newest_of t g r.drive r.block ≡ Some x
   newest_filled = pick (newest_of t g r.drive r.block) refl
     where
-      pick : (o : Found) → newest_of t g r.drive r.block ≡ o → newest_of t g r.drive r.block ≡ At x
-      pick Nothing q = absurd (true≢false (sym asked ∙ newest_nothing t g r.drive r.block (right_ok t g its) q x inside))
-      pick (At j) q =
+      pick : (o : Option ℕ) → newest_of t g r.drive r.block ≡ o → newest_of t g r.drive r.block ≡ Some x
+      pick None q = absurd (true≢false (sym asked ∙ newest_nothing t g r.drive r.block (right_ok t g its) q x inside))
+      pick (Some j) q =
           let n = newest_at t g r.drive r.block j q in
           let same_rank : (slot_of t g j).rank ≡ (slot_of t g x).rank = omega (arith, n.most x inside asked, most j n.inside) in
-          q ∙ ap At (its.apart j x n.inside inside (holds _ 0 n.asked) (holds _ 0 asked) same_rank)
+          q ∙ ap Some (its.apart j x n.inside inside (holds _ 0 n.asked) (holds _ 0 asked) same_rank)
 
   -- ---- and it goes
 
@@ -114,5 +112,5 @@ module _ (s : List ℕ) (g : Geometry) (f : Framed s g) (ok : slots_ok s g ≡ t
       ∙ none_falls g (slot_of t g x).rank zeroed g.s zeroed_most
       ∙ zeroed_is o
 
-  pub newest_new : newest_of (with_result s g r) g r.drive r.block ≡ At x
+  pub newest_new : newest_of (with_result s g r) g r.drive r.block ≡ Some x
   newest_new = ap (λ (z : List ℕ). newest_of z g r.drive r.block) (retain_is s g x r e) ∙ newest_filled

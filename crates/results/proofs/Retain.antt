@@ -1,13 +1,11 @@
 -- A result that is retained: the slots stay right, and it is the newest of the results.
-use Rattle.std.specs.Prelude.{ℕ, ◌+◌, ◌*◌, ◌≤◌, ◌<◌, true, ◌≡◌, refl, ◌⊎◌, length}
+use Rattle.std.specs.Prelude.{ℕ, ◌+◌, ◌*◌, ◌≤◌, ◌<◌, true, ◌≡◌, refl, ◌⊎◌, length, Option, Some, None}
 use Rattle.std.proofs.Common.{arith, true≢false, sym, ◌∙◌, inl, inr, ⊎_elim, length-append}
 use Rattle.std.proofs.Math.Path.{ap, ap₂}
 use mathlib.Core.List.{List, ◌∷◌, ◌++◌, map}
 use Rattle.octets.specs.Part.{part, part_append_back}
 use Rattle.octets.specs.Put.{length_put}
 use Rattle.octets.specs.PutPut.{part_put_of, part_put_apart}
-use Rattle.folds.specs.declared.Found.{Found}
-use Rattle.folds.specs.declared.Found.TheVariants.{At, Nothing}
 use Rattle.folds.specs.Count.{count_le}
 use Rattle.geometry.specs.declared.Geometry.{Geometry}
 use Rattle.geometry.specs.Header.{slot_at, data_at}
@@ -29,19 +27,19 @@ use Rattle.results.proofs.Members.{ages_in}
 use Rattle.results.specs.Results.{Result, slot_result, result_at, by_age, results, with_result, Sound, result_same}
 use Rattle.results.specs.Retain.{new_record, filled}
 
-pub retain_is : (s : List ℕ) (g : Geometry) (x : ℕ) (r : Result) → empty_slot s g ≡ At x → with_result s g r ≡ filled s g x r
+pub retain_is : (s : List ℕ) (g : Geometry) (x : ℕ) (r : Result) → empty_slot s g ≡ Some x → with_result s g r ≡ filled s g x r
 unfolding retained
-retain_is s g x r e = ap (λ (t : Found). entered t s g (new_record s g r) r.bytes) e
+retain_is s g x r e = ap (λ (t : Option ℕ). entered t s g (new_record s g r) r.bytes) e
 
 pub length_retained : (s : List ℕ) (g : Geometry) (r : Result) → length (with_result s g r) ≡ length s
 unfolding retained
 length_retained s g r = by (empty_slot s g)
   where
-    by : (t : Found) → length (entered t s g (new_record s g r) r.bytes) ≡ length s
-    by (At x) = length_put s _ _
-    by Nothing = refl
+    by : (t : Option ℕ) → length (entered t s g (new_record s g r) r.bytes) ≡ length s
+    by (Some x) = length_put s _ _
+    by None = refl
 
-module _ (s : List ℕ) (g : Geometry) (f : Framed s g) (ok : slots_ok s g ≡ true) (x : ℕ) (e : empty_slot s g ≡ At x) (r : Result)
+module _ (s : List ℕ) (g : Geometry) (f : Framed s g) (ok : slots_ok s g ≡ true) (x : ℕ) (e : empty_slot s g ≡ Some x) (r : Result)
     (w : Sound g r) where
   inside : x < g.s
   inside = (empty_inside s g x e).0

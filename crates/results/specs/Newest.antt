@@ -2,19 +2,11 @@
 use Prim.Native.Nat.{ℕ}
 use Rattle.std.specs.Prelude.{Bool, eqb}
 use mathlib.Core.List.{List, [], ◌∷◌}
-use Rattle.std.proofs.Math.Option.{Option, some, none}
-use Rattle.folds.specs.declared.Found.{Found}
-use Rattle.folds.specs.declared.Found.TheVariants.{At, Nothing}
 use Rattle.folds.specs.Every.{every}
 use Rattle.geometry.specs.declared.Geometry.{Geometry}
 use Rattle.slots.specs.Record.{slot_of}
 use Rattle.slots.specs.Find.{wanted}
 use Rattle.results.specs.Results.{Result}
-
--- what was found, as the slots' search says it
-abbrev pub found_of : Option ℕ → Found
-found_of (some i) = At i
-found_of none = Nothing
 
 -- ---- over an image
 

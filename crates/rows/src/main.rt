@@ -10,7 +10,7 @@ use std::io;
 use std::io::{Read, Write};
 
 // Fills the room from its front until it is full or the input ends, and answers how many bytes it has. A read that fails counts as the
-// end of the input.
+// end of the input. A loop, as std's `read_exact` does not say how far it came, and `read_to_end` asks for a heap.
 fn fill<R: Read>(from: &mut R, room: &mut [u8]) -> usize
     ensures { result ≤ length room.new }
 {
@@ -24,7 +24,7 @@ fn fill<R: Read>(from: &mut R, room: &mut [u8]) -> usize
     done
 }
 
-// Prints what `rowsum` makes of the input. The room is as long as the longest text (the law
+// Prints what `rowsum` makes of the input. Memory is fixed: the room is as long as the longest text (the law
 // `printed_whole`).
 fn print<W: Write>(to: &mut W, input: &[u8]) -> io::Result<()>
     ensures { OnOk result (Appends (W.contents to.old) (W.contents to.new) (printed_of input.now)) }

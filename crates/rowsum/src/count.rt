@@ -1,35 +1,27 @@
 // How many rows are open, and how long the listing is: known before a byte of it is written.
 ghost use Rattle.std.specs.Prelude.{◌≡◌, ◌+◌, ◌-◌, ◌<◌, ◌≤◌, eqb, length, get_or};
 ghost use Rattle.folds.specs.All.{all_below};
-ghost use Rattle.geometry.specs.Frame.{InRange, Framed};
+ghost use Rattle.geometry.specs.Frame.{InRange};
 ghost use Rattle.sums.specs.Row.{row_sum, is_open};
 ghost use Rattle.rowsum.specs.Turns.{head_length, row_length};
 ghost use Rattle.rowsum.specs.Tally.{Counted};
 
 use crate::sum;
-use geometry::Geometry;
+use geometry::{Frame, Geometry};
 
 // Is every byte zero?
 fn is_zero(sum: &[u8]) -> bool
     ensures { result ≡ all_below (length sum.now) (λ j. eqb (get_or sum.now j 0) 0) }
 {
-    let n = sum.len();
-    let mut j = 0;
-    while j < n {
-        if sum[j] != 0 {
-            return false;
-        }
-        j += 1;
-    }
-    true
+    sum.iter().all(|b| *b == 0)
 }
 
 // Is the row open? Its sum is left in sum.
-pub fn is_open(sum: &mut [u8], image: &[u8], g: Geometry, row: usize) -> bool
-    requires { Framed image.now g × (row < g.b) × (length sum.old ≡ g.l) }
-    ensures { (result ≡ is_open image.now g row) × (sum.new ≡ row_sum image.now g row) }
+pub fn is_open(sum: &mut [u8], shelf: Frame<'_>, row: usize) -> bool
+    requires { (row < shelf.g.b) × (length sum.old ≡ shelf.g.l) }
+    ensures { (result ≡ is_open shelf.entry.image.now shelf.entry.g row) × (sum.new ≡ row_sum shelf.entry.image.now shelf.entry.g row) }
 {
-    sum::row_sum(sum, image, g, row);
+    sum::row_sum(sum, shelf, row);
     !is_zero(sum)
 }
 
@@ -60,16 +52,16 @@ fn row_length(l: usize, row: usize) -> usize
 }
 
 // What is counted with one row more, whose sum is left in sum.
-fn with_row(tally: Tally, sum: &mut [u8], image: &[u8], g: Geometry, row: usize) -> Tally
-    requires framed { Framed image.now g × (row < g.b) × (length sum.old ≡ g.l) }
-    requires counted_before { Counted image.now g row tally.rows tally.bytes }
-    ensures counted { Counted image.now g (row + 1) result.rows result.bytes }
-    ensures sum_after { sum.new ≡ row_sum image.now g row }
+fn with_row(tally: Tally, sum: &mut [u8], shelf: Frame<'_>, row: usize) -> Tally
+    requires within { (row < shelf.g.b) × (length sum.old ≡ shelf.g.l) }
+    requires counted_before { Counted shelf.image.now shelf.g row tally.rows tally.bytes }
+    ensures counted { Counted shelf.entry.image.now shelf.entry.g (row + 1) result.rows result.bytes }
+    ensures sum_after { sum.new ≡ row_sum shelf.entry.image.now shelf.entry.g row }
 {
-    if !is_open(sum, image, g, row) {
+    if !is_open(sum, shelf, row) {
         return tally;
     }
-    let n = row_length(g.l, row);
+    let n = row_length(shelf.g.l, row);
     Tally {
         rows: tally.rows + 1,
         bytes: tally.bytes + n,
@@ -77,17 +69,14 @@ fn with_row(tally: Tally, sum: &mut [u8], image: &[u8], g: Geometry, row: usize)
 }
 
 // Counts the rows: how many are open, and how many bytes their lines take. The last row's sum is left in sum.
-pub fn count_rows(sum: &mut [u8], image: &[u8], g: Geometry) -> Tally
-    requires { Framed image.now g × (length sum.old ≡ g.l) }
-    ensures counted { Counted image.now g g.b result.rows result.bytes }
-    ensures sum_after { sum.new ≡ row_sum image.now g (g.b - 1) }
+pub fn count_rows(sum: &mut [u8], shelf: Frame<'_>) -> Tally
+    requires { length sum.old ≡ shelf.g.l }
+    ensures counted { Counted shelf.entry.image.now shelf.entry.g shelf.entry.g.b result.rows result.bytes }
+    ensures sum_after { sum.new ≡ row_sum shelf.entry.image.now shelf.entry.g (shelf.entry.g.b - 1) }
 {
-    let b = g.b;
     let mut tally = Tally { rows: 0, bytes: 0 };
-    let mut row = 0;
-    while row < b {
-        tally = with_row(tally, sum, image, g, row);
-        row += 1;
+    for row in 0..shelf.g.b {
+        tally = with_row(tally, sum, shelf, row);
     }
     tally
 }

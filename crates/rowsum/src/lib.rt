@@ -10,31 +10,28 @@ mod lines;
 mod sum;
 
 ghost use Rattle.std.specs.Prelude.{◌≡◌, ◌≤◌, length};
-ghost use Rattle.geometry.specs.Frame.{Framed};
 ghost use Rattle.text.specs.Room.{fitted, fitted_count};
 ghost use Rattle.text.specs.Lines.{written};
 ghost use Rattle.rowsum.specs.Listing.{shelf_lines, listed, listed_count, printed_of};
 
-use geometry::Geometry;
+use geometry::Frame;
 
 // Lists a shelf, with the front of block as room for the sums.
-fn list_in(out: &mut [u8], block: &mut [u8], image: &[u8], g: Geometry) -> usize
-    requires { Framed image.now g × (g.l ≤ length block.old) }
-    ensures value { result ≡ fitted_count (written (shelf_lines image.now g)) out.old }
-    ensures out_after { out.new ≡ fitted (written (shelf_lines image.now g)) out.old }
+fn list_in(out: &mut [u8], block: &mut [u8], shelf: Frame<'_>) -> usize
+    requires { shelf.g.l ≤ length block.old }
+    ensures value { result ≡ fitted_count (written (shelf_lines shelf.entry.image.now shelf.entry.g)) out.old }
+    ensures out_after { out.new ≡ fitted (written (shelf_lines shelf.entry.image.now shelf.entry.g)) out.old }
 {
-    let l = g.l;
-    lines::put_shelf(out, &mut block[..l], image, g)
+    lines::put_shelf(out, &mut block[..shelf.g.l], shelf)
 }
 
-// Lists a shelf: lends the longest block there is.
-fn list_shelf(out: &mut [u8], image: &[u8], g: Geometry) -> usize
-    requires { Framed image.now g }
-    ensures value { result ≡ fitted_count (written (shelf_lines image.now g)) out.old }
-    ensures out_after { out.new ≡ fitted (written (shelf_lines image.now g)) out.old }
+// Lists a shelf: lends the longest block there is, since memory is fixed.
+fn list_shelf(out: &mut [u8], shelf: Frame<'_>) -> usize
+    ensures value { result ≡ fitted_count (written (shelf_lines shelf.entry.image.now shelf.entry.g)) out.old }
+    ensures out_after { out.new ≡ fitted (written (shelf_lines shelf.entry.image.now shelf.entry.g)) out.old }
 {
     let mut block = [0u8; 4096];
-    list_in(out, &mut block, image, g)
+    list_in(out, &mut block, shelf)
 }
 
 // Writes the listing of an image, and answers its length.
@@ -42,10 +39,10 @@ pub fn listing(image: &[u8], out: &mut [u8]) -> usize
     ensures value { result ≡ listed_count image.now out.old }
     ensures out_after { out.new ≡ listed image.now out.old }
 {
-    if !image::valid(image) {
-        return text::put_fitted(out, b"not a shelf\n");
+    match image::shelf_of(image) {
+        Some(shelf) => list_shelf(out, shelf),
+        None => text::put_fitted(out, b"not a shelf\n"),
     }
-    list_shelf(out, image, Geometry::read(image))
 }
 
 // Writes what the row program prints for its input, and answers its length.

@@ -1,86 +1,78 @@
 // The listing's lines, written one after the other.
 ghost use Rattle.std.specs.Prelude.{◌≡◌, ◌++◌, ◌+◌, ◌-◌, ◌<◌, ◌≤◌, length};
-ghost use Rattle.geometry.specs.Frame.{Framed};
 ghost use Rattle.sums.specs.Row.{row_sum};
-ghost use Rattle.text.specs.Room.{Wrote, fitted, fitted_count};
+ghost use Rattle.text.specs.Page.{Writes};
+ghost use Rattle.text.specs.Room.{fitted, fitted_count};
 ghost use Rattle.text.specs.Lines.{newline, written};
 ghost use Rattle.rowsum.specs.Listing.{head_line, row_line, shelf_lines};
 ghost use Rattle.rowsum.specs.Turns.{head_length, row_length, line_text, row_text};
 
 use crate::count;
-use geometry::Geometry;
+use geometry::{Frame, Geometry};
+use text::Page;
 
 // Writes the first line.
-fn put_head(out: &mut [u8], g: Geometry, rows: usize) -> usize
-    requires { head_length g rows ≤ length out.old }
-    ensures { Wrote (head_line g rows ++ newline) 0 result out.old out.new }
+fn put_head(page: &mut Page, g: Geometry, rows: usize)
+    requires { page.old.at + head_length g rows ≤ length page.old.out.now }
+    ensures { Writes (head_line g rows ++ newline) page.old page.new }
 {
-    let at = text::put_field(out, 0, b"drives ", g.d);
-    let at = text::put_field(out, at, b" blocks ", g.b);
-    let at = text::put_field(out, at, b" length ", g.l);
-    let at = text::put_field(out, at, b" open ", rows);
-    text::put_word(out, at, b"\n")
+    page.put_field(b"drives ", g.d);
+    page.put_field(b" blocks ", g.b);
+    page.put_field(b" length ", g.l);
+    page.put_field(b" open ", rows);
+    page.put_word(b"\n");
 }
 
 // Writes the line of an open row.
-fn put_line(out: &mut [u8], at: usize, row: usize, sum: &[u8]) -> usize
-    requires { at + row_length (length sum.now) row ≤ length out.old }
-    ensures { Wrote (row_line row sum.now ++ newline) at result out.old out.new }
+fn put_line(page: &mut Page, row: usize, sum: &[u8])
+    requires { page.old.at + row_length (length sum.now) row ≤ length page.old.out.now }
+    ensures { Writes (row_line row sum.now ++ newline) page.old page.new }
 {
-    let at = text::put_field(out, at, b"row ", row);
-    let at = text::put_word(out, at, b" sum ");
-    let at = text::put_hexadecimal(out, at, sum);
-    text::put_word(out, at, b"\n")
+    page.put_field(b"row ", row);
+    page.put_word(b" sum ");
+    page.put_hexadecimal(sum);
+    page.put_word(b"\n");
 }
 
 // Writes the row's line, where the row is open. Its sum is left in sum.
-fn put_row(
-    out: &mut [u8],
-    at: usize,
-    sum: &mut [u8],
-    image: &[u8],
-    g: Geometry,
-    row: usize,
-) -> usize
-    requires framed { Framed image.now g × (row < g.b) × (length sum.old ≡ g.l) }
-    requires room { at + length (line_text image.now g row) ≤ length out.old }
-    ensures wrote { Wrote (line_text image.now g row) at result out.old out.new }
-    ensures sum_after { sum.new ≡ row_sum image.now g row }
+fn put_row(page: &mut Page, sum: &mut [u8], shelf: Frame<'_>, row: usize)
+    requires within { (row < shelf.g.b) × (length sum.old ≡ shelf.g.l) }
+    requires room { page.old.at + length (line_text shelf.image.now shelf.g row) ≤ length page.old.out.now }
+    ensures wrote { Writes (line_text shelf.entry.image.now shelf.entry.g row) page.old page.new }
+    ensures sum_after { sum.new ≡ row_sum shelf.entry.image.now shelf.entry.g row }
 {
-    if !count::is_open(sum, image, g, row) {
-        return at;
+    if !count::is_open(sum, shelf, row) {
+        return;
     }
-    put_line(out, at, row, sum)
+    put_line(page, row, sum);
 }
 
 // Writes the lines of all rows. The last row's sum is left in sum.
-fn put_rows(out: &mut [u8], at: usize, sum: &mut [u8], image: &[u8], g: Geometry) -> usize
-    requires framed { Framed image.now g × (length sum.old ≡ g.l) }
-    requires room { at + length (row_text image.now g g.b) ≤ length out.old }
-    ensures wrote { Wrote (row_text image.now g g.b) at result out.old out.new }
-    ensures sum_after { sum.new ≡ row_sum image.now g (g.b - 1) }
+fn put_rows(page: &mut Page, sum: &mut [u8], shelf: Frame<'_>)
+    requires summed { length sum.old ≡ shelf.g.l }
+    requires room { page.old.at + length (row_text shelf.image.now shelf.g shelf.g.b) ≤ length page.old.out.now }
+    ensures wrote { Writes (row_text shelf.entry.image.now shelf.entry.g shelf.entry.g.b) page.old page.new }
+    ensures sum_after { sum.new ≡ row_sum shelf.entry.image.now shelf.entry.g (shelf.entry.g.b - 1) }
 {
-    let b = g.b;
-    let mut next = at;
-    let mut row = 0;
-    while row < b {
-        next = put_row(out, next, sum, image, g, row);
-        row += 1;
+    for row in 0..shelf.g.b {
+        put_row(page, sum, shelf, row);
     }
-    next
 }
 
-// Writes the whole listing of a shelf, or nothing where the room is too short. The last row's sum is left in sum.
-pub fn put_shelf(out: &mut [u8], sum: &mut [u8], image: &[u8], g: Geometry) -> usize
-    requires { Framed image.now g × (length sum.old ≡ g.l) }
-    ensures sum_after { sum.new ≡ row_sum image.now g (g.b - 1) }
-    ensures value { result ≡ fitted_count (written (shelf_lines image.now g)) out.old }
-    ensures out_after { out.new ≡ fitted (written (shelf_lines image.now g)) out.old }
+// Writes the whole listing of a shelf, or nothing where the room is too short, and answers its length: 0 for nothing, as
+// `listing` promises it. The last row's sum is left in sum.
+pub fn put_shelf(out: &mut [u8], sum: &mut [u8], shelf: Frame<'_>) -> usize
+    requires { length sum.old ≡ shelf.g.l }
+    ensures sum_after { sum.new ≡ row_sum shelf.entry.image.now shelf.entry.g (shelf.entry.g.b - 1) }
+    ensures value { result ≡ fitted_count (written (shelf_lines shelf.entry.image.now shelf.entry.g)) out.old }
+    ensures out_after { out.new ≡ fitted (written (shelf_lines shelf.entry.image.now shelf.entry.g)) out.old }
 {
-    let tally = count::count_rows(sum, image, g);
-    if out.len() < count::head_length(g, tally.rows) + tally.bytes {
+    let tally = count::count_rows(sum, shelf);
+    if out.len() < count::head_length(shelf.g, tally.rows) + tally.bytes {
         return 0;
     }
-    let at = put_head(out, g, tally.rows);
-    put_rows(out, at, sum, image, g)
+    let mut page = Page { out, at: 0 };
+    put_head(&mut page, shelf.g, tally.rows);
+    put_rows(&mut page, sum, shelf);
+    page.at
 }

@@ -1,40 +1,38 @@
 // A row's sum, in a block that the caller lends.
 ghost use Rattle.std.specs.Prelude.{◌≡◌, [], cond, ◌<◌, length};
 ghost use Rattle.octets.specs.Xor.{◌⊻◌};
-ghost use Rattle.geometry.specs.Frame.{Framed};
 ghost use Rattle.sums.specs.Row.{counts, block_in, row_sum};
 
-use geometry::{Block, Geometry};
+use geometry::{Block, Frame};
 
 // Does a row count the drive? It counts them all, failed ones too.
-fn counted(image: &[u8], g: Geometry, drive: usize) -> bool
-    requires { Framed image.now g × (drive < g.d) }
-    ensures { result ≡ counts image.now g drive }
+#[tactic(auto, using(sums::specs::Counts::counts_all))]
+fn counted(shelf: Frame<'_>, drive: usize) -> bool
+    requires { drive < shelf.g.d }
+    ensures { result ≡ counts shelf.entry.image.now shelf.entry.g drive }
 {
     true
 }
 
 // XORs the drive's block of the row into sum, where the row counts the drive.
-fn add_drive(sum: &mut [u8], image: &[u8], g: Geometry, row: usize, drive: usize)
-    requires { Framed image.now g × (row < g.b) × (drive < g.d) × (length sum.old ≡ g.l) }
-    ensures { sum.new ≡ sum.old ⊻ cond (counts image.now g drive) (block_in image.now g row drive) [] }
+fn add_drive(sum: &mut [u8], shelf: Frame<'_>, row: usize, drive: usize)
+    requires { (row < shelf.g.b) × (drive < shelf.g.d) × (length sum.old ≡ shelf.g.l) }
+    ensures { sum.new ≡ sum.old ⊻ cond (counts shelf.entry.image.now shelf.entry.g drive) (block_in shelf.entry.image.now shelf.entry.g row drive) [] }
 {
-    if !counted(image, g, drive) {
+    if !counted(shelf, drive) {
         return;
     }
-    octets::xor_from(sum, image, g.place(drive, Block(row)));
+    octets::xor_from(sum, shelf.image, shelf.g.place(drive, Block(row)));
 }
 
-// Leaves the row's sum in sum.
-pub fn row_sum(sum: &mut [u8], image: &[u8], g: Geometry, row: usize)
-    requires { Framed image.now g × (row < g.b) × (length sum.old ≡ g.l) }
-    ensures { sum.new ≡ row_sum image.now g row }
+// Leaves the row's sum in sum. Shelf and sum stay apart: a struct of both, with its `&mut`, would need a clause in each
+// contract that the shelf stays, where now one asks for the sum's length.
+pub fn row_sum(sum: &mut [u8], shelf: Frame<'_>, row: usize)
+    requires { (row < shelf.g.b) × (length sum.old ≡ shelf.g.l) }
+    ensures { sum.new ≡ row_sum shelf.entry.image.now shelf.entry.g row }
 {
     octets::fill_zero(sum);
-    let d = g.d;
-    let mut drive = 0;
-    while drive < d {
-        add_drive(sum, image, g, row, drive);
-        drive += 1;
+    for drive in 0..shelf.g.d {
+        add_drive(sum, shelf, row, drive);
     }
 }

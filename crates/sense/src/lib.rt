@@ -2,10 +2,10 @@
 
 #![tactic(auto)]
 
-ghost use Rattle.std.specs.Prelude.{◌≡◌, ◌++◌, ◌≤◌, replicate};
+ghost use Rattle.std.specs.Prelude.{◌≡◌, ◌+◌, ◌++◌, ◌≤◌, replicate};
 ghost use Rattle.octets.specs.Put.{put};
 ghost use Rattle.sense.specs.Answers.{number_of};
-ghost use Rattle.sense.specs.Sense.{plain_of, no_sense, plain_sense, absent_sense, nested_sense, sense_of, outcome_of};
+ghost use Rattle.sense.specs.Sense.{plain_of, outer_of, no_sense, plain_sense, absent_sense, nested_sense, sense_of, outcome_of};
 
 // 01, "Answers and the order of checks".
 #[derive(Clone, Copy)]
@@ -46,7 +46,8 @@ pub enum Answer {
     NestedRange,
 }
 
-// 37 bytes, of which the first `len` are the sense; the others are zero.
+// 37 bytes, of which the first `len` are the sense; the others are zero. A length beside an array:
+// C takes all 37, and there is no heap.
 #[derive(Clone, Copy)]
 pub struct Sense {
     pub bytes: [u8; 37],
@@ -61,142 +62,153 @@ pub struct Outcome {
     pub count: usize,
 }
 
-// A plain sense: byte 0 is first, bytes 3-6 hold the number info, code and qualifier are the pair.
-fn plain(first: u8, info: usize, key: u8, code: u8, qualifier: u8) -> [u8; 18]
-    ensures { result ≡ plain_of first info key code qualifier }
+// The bytes of a plain sense. Key, code and qualifier are three arguments, as 01 writes them:
+// 05h/20h/00h.
+#[tactic(auto, unfolding(octets::specs::Number::to_be))]
+fn plain(key: u8, code: u8, qualifier: u8) -> [u8; 18]
+    ensures { result ≡ plain_of 0x70 0 key code qualifier }
 {
-    let mut s = [0u8; 18];
-    s[0] = first;
-    s[2] = key;
-    let bytes = octets::to_be4(info);
-    s[3] = bytes.0;
-    s[4] = bytes.1;
-    s[5] = bytes.2;
-    s[6] = bytes.3;
-    s[7] = 0x0A;
-    s[12] = code;
-    s[13] = qualifier;
-    s
+    [
+        0x70, 0, key, 0, 0, 0, 0, 0x0A, 0, 0, 0, 0, code, qualifier, 0, 0, 0, 0,
+    ]
 }
 
-// The outer bytes with an inner sense copied over them from index at on.
-fn placed(outer: [u8; 37], at: usize, inner: [u8; 18]) -> [u8; 37]
+// The sense that ends with an inner one, which begins at index at.
+fn ending(front: [u8; 37], at: usize, inner: [u8; 18]) -> Sense
     requires { at ≤ 19 }
-    ensures { result ≡ put outer at inner }
+    ensures { result ≡ record { bytes = put front at inner; len = at + 18 } }
 {
-    let mut s = outer;
-    octets::put_at(&mut s, at, &inner);
-    s
+    let mut bytes = front;
+    octets::put_at(&mut bytes, at, &inner);
+    Sense {
+        bytes,
+        len: at + 18,
+    }
 }
 
-// A plain sense at the front of 37 bytes.
-fn front(first: u8, info: usize, key: u8, code: u8, qualifier: u8) -> [u8; 37]
-    ensures { result ≡ plain_of first info key code qualifier ++ replicate 19 0 }
+// The bytes in front of a nested sense, of which 7, 8 and 9 say what is nested.
+#[tactic(auto, unfolding(octets::specs::Number::to_be, crate::specs::Sense::plain_sense))]
+fn outer(seven: u8, eight: u8, nine: u8) -> [u8; 37]
+    ensures { result ≡ outer_of 0x70 0 seven eight nine ++ replicate 19 0 }
 {
-    placed([0u8; 37], 0, plain(first, info, key, code, qualifier))
+    let mut s = plain_sense(0x0B, 0x00, 0x00).bytes;
+    s[7] = seven;
+    s[8] = eight;
+    s[9] = nine;
+    s
 }
 
 // No sense.
+#[tactic(auto, unfolding(crate::specs::Sense::no_sense))]
 fn no_sense() -> Sense
     ensures { result ≡ no_sense }
 {
     Sense {
-        bytes: [0u8; 37],
+        bytes: [0; 37],
         len: 0,
     }
 }
 
 // Plain: the target itself refuses.
+#[tactic(auto, unfolding(crate::specs::Sense::plain_sense, octets::specs::Put::put, octets::specs::Number::to_be))]
 fn plain_sense(key: u8, code: u8, qualifier: u8) -> Sense
     ensures { result ≡ plain_sense key code qualifier }
 {
-    let s = front(0x70, 0, key, code, qualifier);
-    Sense { bytes: s, len: 18 }
+    ending([0; 37], 0, plain(key, code, qualifier))
 }
 
 // Nested: an address that is not in the table.
+#[tactic(auto, unfolding(crate::specs::Sense::absent_sense, octets::specs::Put::put, octets::specs::Number::to_be))]
 fn absent_sense() -> Sense
     ensures { result ≡ absent_sense }
 {
-    let mut s = front(0x70, 0, 0x0B, 0x00, 0x00);
-    s[7] = 0x1C;
-    s[8] = 0x12;
-    let inner = plain(0x70, 0, 0x0B, 0x08, 0x00);
-    let b = placed(s, 18, inner);
-    Sense { bytes: b, len: 36 }
+    ending(outer(0x1C, 0x12, 0x00), 18, plain(0x0B, 0x08, 0x00))
 }
 
 // Nested: status 02h and the sense of the drive that refuses.
+#[tactic(auto, unfolding(crate::specs::Sense::nested_sense, octets::specs::Put::put, octets::specs::Number::to_be))]
 fn nested_sense(key: u8, code: u8, qualifier: u8) -> Sense
     ensures { result ≡ nested_sense key code qualifier }
 {
-    let mut s = front(0x70, 0, 0x0B, 0x00, 0x00);
-    s[7] = 0x1D;
-    s[9] = 0x12;
-    s[18] = 0x02;
-    let inner = plain(0x70, 0, key, code, qualifier);
-    let b = placed(s, 19, inner);
-    Sense { bytes: b, len: 37 }
+    let mut front = outer(0x1D, 0x00, 0x12);
+    front[18] = 0x02;
+    ending(front, 19, plain(key, code, qualifier))
 }
 
-// The sense of an answer.
-pub fn sense_of(a: Answer) -> Sense
-    ensures { result ≡ sense_of a }
-{
-    match a {
-        Answer::Good => no_sense(),
-        Answer::Busy => no_sense(),
-        Answer::BadImage => no_sense(),
-        Answer::NoTarget => no_sense(),
-        Answer::BadCdb => no_sense(),
-        Answer::WrongCount => no_sense(),
-        Answer::ShortRoom => no_sense(),
-        Answer::BadState => no_sense(),
-        Answer::UnknownCode => plain_sense(0x05, 0x20, 0x00),
-        Answer::TargetFailed => plain_sense(0x02, 0x04, 0x00),
-        Answer::BadField => plain_sense(0x05, 0x24, 0x00),
-        Answer::BadListLength => plain_sense(0x05, 0x1A, 0x00),
-        Answer::BadList => plain_sense(0x05, 0x26, 0x00),
-        Answer::BadRange => plain_sense(0x05, 0x21, 0x00),
-        Answer::NestedAddress => absent_sense(),
-        Answer::NestedFailed => nested_sense(0x02, 0x04, 0x00),
-        Answer::NestedRange => nested_sense(0x05, 0x21, 0x00),
+impl From<Answer> for Sense {
+    ghost from_gives = { λ a s. s ≡ sense_of a };
+
+    fn from(a: Answer) -> Sense {
+        match a {
+            Answer::UnknownCode => plain_sense(0x05, 0x20, 0x00),
+            Answer::TargetFailed => plain_sense(0x02, 0x04, 0x00),
+            Answer::BadField => plain_sense(0x05, 0x24, 0x00),
+            Answer::BadListLength => plain_sense(0x05, 0x1A, 0x00),
+            Answer::BadList => plain_sense(0x05, 0x26, 0x00),
+            Answer::BadRange => plain_sense(0x05, 0x21, 0x00),
+            Answer::NestedAddress => absent_sense(),
+            Answer::NestedFailed => nested_sense(0x02, 0x04, 0x00),
+            Answer::NestedRange => nested_sense(0x05, 0x21, 0x00),
+            Answer::Good
+            | Answer::Busy
+            | Answer::BadImage
+            | Answer::NoTarget
+            | Answer::BadCdb
+            | Answer::WrongCount
+            | Answer::ShortRoom
+            | Answer::BadState => no_sense(),
+        }
     }
 }
 
 // A status as itself, call n as 256 + n.
+impl From<Answer> for u32 {
+    ghost from_gives = { λ a n. n ≡ number_of a };
+
+    fn from(a: Answer) -> u32 {
+        match a {
+            Answer::Good => 0x00,
+            Answer::Busy => 0x08,
+            Answer::BadImage => 257,
+            Answer::NoTarget => 258,
+            Answer::BadCdb => 259,
+            Answer::WrongCount => 260,
+            Answer::ShortRoom => 261,
+            Answer::BadState => 262,
+            Answer::UnknownCode
+            | Answer::TargetFailed
+            | Answer::BadField
+            | Answer::BadListLength
+            | Answer::BadList
+            | Answer::BadRange
+            | Answer::NestedAddress
+            | Answer::NestedFailed
+            | Answer::NestedRange => 0x02,
+        }
+    }
+}
+
+// The sense of an answer, by name, as the law `sense_of_once` has it.
+pub fn sense_of(a: Answer) -> Sense
+    ensures { result ≡ sense_of a }
+{
+    Sense::from(a)
+}
+
+// The number of an answer, by name, as the law `number_once` has it.
 pub fn number(a: Answer) -> u32
     ensures { result ≡ number_of a }
 {
-    match a {
-        Answer::Good => 0x00,
-        Answer::Busy => 0x08,
-        Answer::BadImage => 257,
-        Answer::NoTarget => 258,
-        Answer::BadCdb => 259,
-        Answer::WrongCount => 260,
-        Answer::ShortRoom => 261,
-        Answer::BadState => 262,
-        Answer::UnknownCode => 0x02,
-        Answer::TargetFailed => 0x02,
-        Answer::BadField => 0x02,
-        Answer::BadListLength => 0x02,
-        Answer::BadList => 0x02,
-        Answer::BadRange => 0x02,
-        Answer::NestedAddress => 0x02,
-        Answer::NestedFailed => 0x02,
-        Answer::NestedRange => 0x02,
-    }
+    u32::from(a)
 }
 
 // What a call hands back with the answer.
 pub fn outcome_of(a: Answer, count: usize) -> Outcome
     ensures { result ≡ outcome_of a count }
 {
-    let s = sense_of(a);
     Outcome {
         answer: a,
-        sense: s,
+        sense: Sense::from(a),
         count,
     }
 }

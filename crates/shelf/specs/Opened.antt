@@ -1,10 +1,9 @@
 -- A reset and a marking, as the code goes through their checks.
-use Rattle.std.specs.Prelude.{◌≡◌, ℕ, ◌≤◌, ◌<◌, ltb}
+use Rattle.std.specs.Prelude.{◌≡◌, ℕ, ◌≤◌, ◌<◌, ltb, Some, Err}
 use Rattle.std.proofs.Math.Path.{sym, ap}
 use Rattle.std.proofs.Common.{◌∙◌}
 use mathlib.Core.List.{List, [], ◌∷◌}
 use borrow.Author.Tests.{lt-ltb, le-ltb}
-use Rattle.folds.specs.declared.Found.TheVariants.{At}
 use Rattle.rules.specs.Rule.{rule, first}
 use Rattle.rules.proofs.Rule.{first_append}
 use Rattle.geometry.specs.declared.Geometry.{Geometry}
@@ -17,12 +16,11 @@ use Rattle.sense.specs.declared.Answer.TheVariants.{Good, BadState}
 use Rattle.meaning.specs.declared.Seen.TheVariants.{Dash}
 use Rattle.meaning.specs.Checks.{Check, calls}
 use Rattle.meaning.specs.Step.{answered, untouched, target, reset_answer, reset_image, mark_answer, mark_image}
-use Rattle.decide.specs.declared.Reached.TheVariants.{Refused}
 use Rattle.decide.specs.Called.{called_of, Addressed, addressed_found, called_refused}
 use Rattle.meaning.specs.Stepped.{Reset, Marked}
 
 -- calls 1 and 2
-module _ (m : List ℕ) (a : Came) (x : Answer) (e : called_of m a ≡ Refused x) where
+module _ (m : List ℕ) (a : Came) (x : Answer) (e : called_of m a ≡ Err x) where
   pub reset_refused : Reset m a x m
   unfolding reset_answer reset_image
   reset_refused =
@@ -43,7 +41,7 @@ module _ (m : List ℕ) (a : Came) (x : Answer) (e : called_of m a ≡ Refused x
 
 -- where they pass
 module _ (m : List ℕ) (a : Came) (g : Geometry) (i : ℕ) (t : Addressed m a g i) where
-  found : target_of m (geometry_of m) a ≡ At i
+  found : target_of m (geometry_of m) a ≡ Some i
   found = addressed_found m a g i t
 
   pub reset_done : (m' : List ℕ) → m' ≡ dropped m g i → Reset m a Good m'

@@ -6,10 +6,9 @@
 ghost use Rattle.std.specs.Prelude.{◌≡◌};
 ghost use Rattle.meaning.specs.Stepped.{Stepped, Reset, Marked};
 
-use decide::Reached;
 use drives::Came;
 use geometry::Geometry;
-use meaning::Decision;
+use meaning::{Go, Stop};
 use sense::{Answer, Outcome};
 
 // Carries out one command: it is decided on a shared image, and only a decision to go reaches the
@@ -17,10 +16,9 @@ use sense::{Answer, Outcome};
 pub fn step(image: &mut [u8], came: Came, cdb: &[u8], sent: &[u8], room: &mut [u8]) -> Outcome
     ensures { Stepped image.old came cdb.now sent.now room.old result image.new room.new }
 {
-    let n = room.len();
-    match decide::decide(image, came, cdb, sent, n) {
-        Decision::Stop(_, _, answer) => sense::outcome_of(answer, 0),
-        Decision::Go(act, answer) => {
+    match decide::decide(image, came, cdb, sent, room.len()) {
+        Err(Stop { answer, .. }) => sense::outcome_of(answer, 0),
+        Ok(Go { act, answer }) => {
             let g = Geometry::read(image);
             let count = act::carry_out(image, g, act, sent, room);
             sense::outcome_of(answer, count)
@@ -33,21 +31,21 @@ pub fn reset(image: &mut [u8], came: Came) -> Answer
     ensures { Reset image.old came result image.new }
 {
     match decide::called(image, came) {
-        Reached::Refused(answer) => answer,
-        Reached::Drive(g, i) => {
+        Err(answer) => answer,
+        Ok((g, i)) => {
             slots::drop_drive(image, g, i);
             Answer::Good
         }
     }
 }
 
-// Marks a drive present (0) or failed (1).
+// Marks a drive present (0) or failed (1): `state` as the C interface passes it, and any number gets an answer.
 pub fn mark(image: &mut [u8], came: Came, state: u32) -> Answer
     ensures { Marked image.old came state result image.new }
 {
     match decide::called(image, came) {
-        Reached::Refused(answer) => answer,
-        Reached::Drive(g, i) => {
+        Err(answer) => answer,
+        Ok((g, i)) => {
             if 1 < state {
                 return Answer::BadState;
             }

@@ -1,6 +1,6 @@
 -- The C call of a step (01, "What the shelf does"): "It lends a sense room too, whose first 37 bytes take the sense, the rest staying; a
 -- shorter one is call 5 before all other checks, nothing moved."
-use Rattle.std.specs.Prelude.{◌≡◌, Bool, true, false, cond, List, ◌⊎◌, ℕ, ◌≤◌, ◌<◌, ltb, length}
+use Rattle.std.specs.Prelude.{◌≡◌, Bool, true, false, cond, List, ◌⊎◌, ℕ, ◌≤◌, ◌<◌, ltb, length, Ok, Err}
 use Rattle.std.proofs.Common.{sym, ap, ◌∙◌, inl, inr, arith, lt-ltb, le-ltb}
 use Rattle.folds.specs.Cases.{either}
 use Rattle.octets.specs.Put.{put}
@@ -10,8 +10,7 @@ use Rattle.sense.specs.declared.Answer.{Answer}
 use Rattle.sense.specs.declared.Answer.TheVariants.{ShortRoom}
 use Rattle.sense.specs.Answers.{number_of}
 use Rattle.sense.specs.SenseLaws.{sound}
-use Rattle.meaning.specs.declared.Decision.{Decision}
-use Rattle.meaning.specs.declared.Decision.TheVariants.{Stop, Go}
+use Rattle.meaning.specs.Decision.{Decision}
 use Rattle.meaning.specs.Step.{decided, outcome_after, step_image, step_room, step_outcome, reset_answer, reset_image, mark_answer, mark_image}
 use Rattle.meaning.specs.Stepped.{Stepped, Reset, Marked}
 use Rattle.demands_one_two.specs.Step.{refused_keeps, count_small}
@@ -68,8 +67,8 @@ unfolding step_outcome
 told_long m a c s r o m' r' h = ap (λ (t : Outcome). length t.sense.bytes) h.outcome ∙ pick (decided m a c s r)
   where
     pick : (d : Decision) → length (outcome_after d m s).sense.bytes ≡ 37
-    pick (Stop n w x) = (sound x).bytes_long
-    pick (Go act x) = (sound x).bytes_long
+    pick (Err x) = (sound x.answer).bytes_long
+    pick (Ok x) = (sound x.answer).bytes_long
 
 pub fits_count : (m : List ℕ) (a : Came) (c s r : List ℕ) (o : Outcome) (m' r' : List ℕ) → Stepped m a c s r o m' r' → o.count < 4294967296
 fits_count m a c s r o m' r' h = let e : o.count ≡ (step_outcome m a c s r).count = ap (λ (t : Outcome). t.count) h.outcome in omega (arith, count_small m a c s r)

@@ -1,5 +1,6 @@
 // The C interface as a static library: the functions of `shelf_c`, each under its own name and with its own contract.
-// include/shelf.h says what a driver writer must know.
+// include/shelf.h says what a driver writer must know. What is exported to C stands here a second time, since a crate is
+// a library or a static library.
 
 #![tactic(auto)]
 

@@ -1,9 +1,7 @@
 -- A result comes, goes, and all of a drive's go (01, "The image" and "Commands").
-use Rattle.std.specs.Prelude.{ℕ, ◌+◌, ◌-◌, List, [], ◌∷◌, ◌++◌, Bool, cond, ltb, eqb, replicate}
+use Rattle.std.specs.Prelude.{ℕ, ◌+◌, ◌-◌, List, [], ◌∷◌, ◌++◌, Bool, cond, ltb, eqb, replicate, Option, Some, None}
 use Rattle.octets.specs.Put.{put}
 use Rattle.octets.specs.Number.{to_be}
-use Rattle.folds.specs.declared.Found.{Found}
-use Rattle.folds.specs.declared.Found.TheVariants.{At, Nothing}
 use Rattle.folds.specs.Every.{every}
 use Rattle.geometry.specs.declared.Geometry.{Geometry}
 use Rattle.geometry.specs.Header.{slot_at}
@@ -18,9 +16,9 @@ abbrev pub entry : ℕ → ℕ → ℕ → ℕ → ℕ → Slot
 entry rank kind drive block n = record { rank = rank; kind = kind; drive = drive; len = n; block = record { 0 = block }; last = 0 }
 
 -- "its bytes fill the front of the slot, the rest stays"; where no slot is empty nothing is retained
-abbrev pub entered : Found → List ℕ → Geometry → Slot → List ℕ → List ℕ
-entered (At i) m g e bytes = put m (slot_at g i) (bytes_of e ++ bytes)
-entered Nothing m g e bytes = m
+abbrev pub entered : Option ℕ → List ℕ → Geometry → Slot → List ℕ → List ℕ
+entered (Some i) m g e bytes = put m (slot_at g i) (bytes_of e ++ bytes)
+entered None m g e bytes = m
 
 -- "A new result takes the lowest-numbered empty slot and rank k+1"
 unfoldable pub retained : List ℕ → Geometry → ℕ → ℕ → ℕ → ℕ → List ℕ → List ℕ

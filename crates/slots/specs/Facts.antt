@@ -1,12 +1,11 @@
 -- What the slots' tests say, by name.
-use Rattle.std.specs.Prelude.{◌≡◌, List, Bool, true, false, not, ℕ, ◌≤◌, ◌<◌}
+use Rattle.std.specs.Prelude.{◌≡◌, List, Bool, true, false, not, ℕ, ◌≤◌, ◌<◌, Some}
 use Rattle.std.proofs.Common.{sym, ap, ◌∙◌, arith, leb-true, ltb-true, eqb-true, le-leb, lt-ltb, eq-eqb, ne_eqb}
 use Rattle.std.proofs.Math.Logic.{⊎_elim}
 use Rattle.std.proofs.lemmas.Bool.{eqb-false, not-true, not-false}
 use Rattle.folds.specs.Cases.{either, same, apart as differ}
 use Rattle.folds.specs.Every.{every, holds, every_of}
 use Rattle.folds.specs.All.{all_at, all_intro}
-use Rattle.folds.specs.declared.Found.TheVariants.{At}
 use Rattle.folds.proofs.Least.{least_inside}
 use Rattle.rules.specs.Must.{tests_of}
 use Rattle.geometry.specs.declared.Geometry.{Geometry}
@@ -96,7 +95,7 @@ module _ (g : Geometry) (k : ℕ) (new : Bool) (r : Slot) where
 
 -- ---- the slot that takes a result
 
-pub empty_inside : (s : List ℕ) (g : Geometry) (i : ℕ) → empty_slot s g ≡ At i → (i < g.s) × (is_used (slot_of s g i) ≡ false)
+pub empty_inside : (s : List ℕ) (g : Geometry) (i : ℕ) → empty_slot s g ≡ Some i → (i < g.s) × (is_used (slot_of s g i) ≡ false)
 unfolding empty_slot
 empty_inside s g i e = let r = least_inside (λ k. not (is_used (slot_of s g k))) g.s i e in (r.0, not-true _ r.1)
 

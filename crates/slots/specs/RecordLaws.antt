@@ -6,7 +6,6 @@ use Rattle.octets.specs.Part.{part, part_whole}
 use Rattle.octets.specs.Octets.{Octets}
 use Rattle.octets.specs.Put.{put}
 use Rattle.octets.specs.Number.{be, num, to_be, length_to_be, num_to_be_lt, put_be, be_on, be_put, be_put_apart, be_part, be_one, to_be1, to_be2, to_be4}
-use Rattle.octets.specs.declared.Four.{Four}
 use Rattle.octets.specs.Four.{four_of}
 use Rattle.geometry.specs.declared.Geometry.{Geometry}
 use Rattle.geometry.specs.Header.{slot_at}
@@ -122,8 +121,8 @@ rank_at s g i at old a e =
     let z : at ≡ slot_at g i + 0 = omega arith in
     e ∙ ap (be 4 s) z ∙ sym (be_part 4 s (slot_at g i) 16 0 (lit≤ tt))
 
-pub stored_bytes : (r : Slot) (rank len first last : Four) → rank ≡ four_of r.rank → len ≡ four_of r.len → first ≡ four_of r.block.0 → last ≡ four_of r.last
-    → rank.0 ∷ rank.1 ∷ rank.2 ∷ rank.3 ∷ r.kind % 256 ∷ r.drive % 256 ∷ len.2 ∷ len.3 ∷ first.0 ∷ first.1 ∷ first.2 ∷ first.3 ∷ last.0 ∷ last.1 ∷ last.2 ∷ last.3 ∷ []
+pub stored_bytes : (r : Slot) (rank len first last : List ℕ) → rank ≡ four_of r.rank → len ≡ four_of r.len → first ≡ four_of r.block.0 → last ≡ four_of r.last
+    → get_or rank 0 0 ∷ get_or rank 1 0 ∷ get_or rank 2 0 ∷ get_or rank 3 0 ∷ r.kind % 256 ∷ r.drive % 256 ∷ get_or len 2 0 ∷ get_or len 3 0 ∷ get_or first 0 0 ∷ get_or first 1 0 ∷ get_or first 2 0 ∷ get_or first 3 0 ∷ get_or last 0 0 ∷ get_or last 1 0 ∷ get_or last 2 0 ∷ get_or last 3 0 ∷ []
     ≡ bytes_of r
 unfolding bytes_of
 stored_bytes r rank len first last e0 e1 e2 e3 =

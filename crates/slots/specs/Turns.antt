@@ -1,12 +1,12 @@
 -- How the searches and changes go on from slot to slot, as the code does.
-use Rattle.std.specs.Prelude.{◌≡◌, List, [], ◌∷◌, Bool, true, false, ◌&&◌, ℕ, ◌+◌, ◌-◌, ◌≤◌, ◌<◌, length, replicate, ltb, eqb}
+use Rattle.std.specs.Prelude.{◌≡◌, List, [], ◌∷◌, Bool, true, false, ◌&&◌, ℕ, ◌+◌, ◌-◌, ◌≤◌, ◌<◌, length, replicate, ltb, eqb, Option, Some, None}
+use Rattle.std.specs.Option.{option_map}
 use Rattle.std.proofs.Math.Path.{refl, ap}
 use Rattle.std.proofs.Common.{sym, ap₂, ◌∙◌, add-one, lt-ltb, le-ltb}
 use native.Mathlib.Omega.{arith}
 use Rattle.octets.specs.Put.{put}
 use Rattle.octets.specs.PutPut.{put_comm, put_append}
 use Rattle.octets.specs.Number.{be, to_be}
-use Rattle.folds.specs.declared.Found.TheVariants.{At, Nothing}
 use Rattle.folds.specs.Every.{every, every_joined}
 use Rattle.geometry.specs.declared.Geometry.{Geometry}
 use Rattle.geometry.specs.Header.{slot_at}
@@ -16,44 +16,45 @@ use Rattle.slots.specs.declared.Best.{Best}
 use Rattle.slots.specs.Record.{slot_of, bytes_of, is_used}
 use Rattle.slots.specs.RecordLaws.{length_bytes, rank_at}
 use Rattle.slots.specs.Slots.{used_count}
-use Rattle.slots.specs.Find.{empty_slot, wanted, better, best_of, newest_of}
+use Rattle.slots.specs.Find.{empty_slot, wanted, top_of, better, best_of, newest_of}
 use Rattle.slots.specs.Change.{entry, retained, fall_stores, drop_stores, lower_one, lowered, released, drop_one, dropped_to, dropped}
 
 -- ---- the newest
 
-module _ (drive block : ℕ) (b : Best) (i : ℕ) (r : Slot) where
+module _ (drive block : ℕ) (best : Option Best) (i : ℕ) (r : Slot) where
   -- the four tests, joined, say whether slot i is better
-  test_better : (is_used r && eqb r.drive drive && eqb r.block.0 block && ltb b.top r.rank) ≡ every (wanted drive block r ∷ ltb b.top r.rank ∷ [])
+  test_better : (is_used r && eqb r.drive drive && eqb r.block.0 block && ltb (top_of best) r.rank) ≡ every (wanted drive block r ∷ ltb (top_of best) r.rank ∷ [])
   test_better =
-      ap (λ (t : Bool). t && ltb b.top r.rank) (every_joined (is_used r) (eqb r.drive drive ∷ eqb r.block.0 block ∷ []))
-      ∙ every_joined (wanted drive block r) (ltb b.top r.rank ∷ [])
+      ap (λ (t : Bool). t && ltb (top_of best) r.rank) (every_joined (is_used r) (eqb r.drive drive ∷ eqb r.block.0 block ∷ []))
+      ∙ every_joined (wanted drive block r) (ltb (top_of best) r.rank ∷ [])
 
-  pub better_not : (is_used r && eqb r.drive drive && eqb r.block.0 block && ltb b.top r.rank) ≡ false → b ≡ better drive block b i r
+  pub better_not : (is_used r && eqb r.drive drive && eqb r.block.0 block && ltb (top_of best) r.rank) ≡ false → best ≡ better drive block best i r
   unfolding better
   better_not e = rw (sym test_better ∙ e)
 
-  pub better_newer : (is_used r && eqb r.drive drive && eqb r.block.0 block && ltb b.top r.rank) ≡ true
-      → record { top = r.rank; found = At i } ≡ better drive block b i r
+  pub better_newer : (is_used r && eqb r.drive drive && eqb r.block.0 block && ltb (top_of best) r.rank) ≡ true
+      → Some (record { slot = i; rank = r.rank }) ≡ better drive block best i r
   unfolding better
   better_newer e = rw (sym test_better ∙ e)
 
 module _ (s : List ℕ) (g : Geometry) (drive block : ℕ) where
-  pub best_none : record { top = 0; found = Nothing } ≡ best_of s g drive block 0
+  pub best_none : None ≡ best_of s g drive block 0
   unfolding best_of
   best_none = refl
 
-  pub best_more : (n : ℕ) (b : Best) (r : Slot) → b ≡ best_of s g drive block n → r ≡ slot_of s g n → better drive block b n r ≡ best_of s g drive block (n + 1)
+  pub best_more : (n : ℕ) (b : Option Best) (r : Slot) → b ≡ best_of s g drive block n → r ≡ slot_of s g n → better drive block b n r ≡ best_of s g drive block (n + 1)
   unfolding best_of
-  best_more n b r e q = rw (add-one n) (ap₂ (λ (x : Best) (y : Slot). better drive block x n y) e q)
+  best_more n b r e q = rw (add-one n) (ap₂ (λ (x : Option Best) (y : Slot). better drive block x n y) e q)
 
-  pub best_done : (i : ℕ) (b : Best) → b ≡ best_of s g drive block i → i ≤ g.s → g.s ≤ i → b.found ≡ newest_of s g drive block
+  pub best_done : (i : ℕ) (b : Option Best) → b ≡ best_of s g drive block i → i ≤ g.s → g.s ≤ i → option_map (λ (x : Best). x.slot) b ≡ newest_of s g drive block
   unfolding newest_of
-  best_done i b e h l = let q : i ≡ g.s = omega arith in ap (λ (x : Best). x.found) (e ∙ ap (best_of s g drive block) q)
+  best_done i b e h l =
+      let q : i ≡ g.s = omega arith in ap (option_map (λ (x : Best). x.slot)) (e ∙ ap (best_of s g drive block) q)
 
 -- ---- a new result
 
 -- the bytes first, then the record
-pub retained_at : (s : List ℕ) (g : Geometry) (kind drive block n : ℕ) (bytes : List ℕ) (i at rank : ℕ) (s₁ s₂ : List ℕ) → empty_slot s g ≡ At i → at ≡ slot_at g i → rank ≡ used_count s g + 1
+pub retained_at : (s : List ℕ) (g : Geometry) (kind drive block n : ℕ) (bytes : List ℕ) (i at rank : ℕ) (s₁ s₂ : List ℕ) → empty_slot s g ≡ Some i → at ≡ slot_at g i → rank ≡ used_count s g + 1
     → s₁ ≡ put s (at + 16) bytes → s₂ ≡ put s₁ at (bytes_of (entry rank kind drive block n)) → s₂ ≡ retained s g kind drive block n bytes
 unfolding retained
 retained_at s g kind drive block n bytes i at rank s₁ s₂ e a k p q =

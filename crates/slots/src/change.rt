@@ -1,4 +1,5 @@
-// A result comes, goes, and all of a drive's go.
+// A result comes, goes, and all of a drive's go. Image and geometry stay apart here, where the image is
+// written: a `Frame` with a `&mut` would need a clause in each contract that its geometry stays.
 ghost use Rattle.std.specs.Prelude.{◌≡◌, ◌+◌, ◌<◌, ◌≤◌, length};
 ghost use Rattle.octets.specs.Put.{put};
 ghost use Rattle.geometry.specs.Frame.{Framed};
@@ -6,36 +7,20 @@ ghost use Rattle.slots.specs.Record.{bytes_of};
 ghost use Rattle.slots.specs.Change.{lower_one, lowered, released, drop_one, dropped};
 
 use crate::Slot;
-use geometry::{Geometry, RECORD};
+use geometry::{Frame, Geometry, RECORD};
 
 // Writes a record at index at.
 pub fn write_record(image: &mut [u8], at: usize, r: Slot)
     requires { at + 16 ≤ length image.old }
     ensures { image.new ≡ put image.old at (bytes_of r) }
 {
-    let block = r.block;
-    let rank = octets::to_be4(r.rank);
-    let len = octets::to_be4(r.len);
-    let first = octets::to_be4(block.0);
-    let last = octets::to_be4(r.last);
-    let b = [
-        rank.0,
-        rank.1,
-        rank.2,
-        rank.3,
-        (r.kind % 256) as u8,
-        (r.drive % 256) as u8,
-        len.2,
-        len.3,
-        first.0,
-        first.1,
-        first.2,
-        first.3,
-        last.0,
-        last.1,
-        last.2,
-        last.3,
-    ];
+    let mut b = [0u8; RECORD];
+    octets::put_be::<4>(&mut b, 0, r.rank);
+    octets::put_be::<1>(&mut b, 4, r.kind);
+    octets::put_be::<1>(&mut b, 5, r.drive);
+    octets::put_be::<2>(&mut b, 6, r.len);
+    octets::put_be::<4>(&mut b, 8, r.block.0);
+    octets::put_be::<4>(&mut b, 12, r.last);
     octets::put_at(image, at, &b);
 }
 
@@ -45,9 +30,9 @@ fn lower_one(image: &mut [u8], g: Geometry, rank: usize, i: usize)
     ensures { image.new ≡ lower_one g rank i image.old }
 {
     let at = g.slot_at(i);
-    let old = octets::be4(image, at);
+    let old = octets::be::<4>(image, at);
     if rank < old {
-        octets::put_be4(image, at, old - 1);
+        octets::put_be::<4>(image, at, old - 1);
     }
 }
 
@@ -56,11 +41,8 @@ fn lower(image: &mut [u8], g: Geometry, rank: usize)
     requires { Framed image.old g }
     ensures { image.new ≡ lowered g rank g.s image.old }
 {
-    let n = g.s;
-    let mut i = 0;
-    while i < n {
+    for i in 0..g.s {
         lower_one(image, g, rank, i);
-        i += 1;
     }
 }
 
@@ -70,9 +52,8 @@ pub fn release(image: &mut [u8], g: Geometry, i: usize)
     ensures { image.new ≡ released image.old g i }
 {
     let at = g.slot_at(i);
-    let rank = octets::be4(image, at);
-    let zeros = [0u8; RECORD];
-    octets::put_at(image, at, &zeros);
+    let rank = octets::be::<4>(image, at);
+    octets::put_at(image, at, &[0; RECORD]);
     lower(image, g, rank);
 }
 
@@ -81,7 +62,7 @@ fn drop_one(image: &mut [u8], g: Geometry, drive: usize, i: usize)
     requires { Framed image.old g × (i < g.s) }
     ensures { image.new ≡ drop_one g drive i image.old }
 {
-    let r = crate::read_slot(image, g, i);
+    let r = crate::read_slot(Frame { image, g }, i);
     if (r.kind != 0) & (r.drive == drive) {
         release(image, g, i);
     }
@@ -92,10 +73,7 @@ pub fn drop_drive(image: &mut [u8], g: Geometry, drive: usize)
     requires { Framed image.old g }
     ensures { image.new ≡ dropped image.old g drive }
 {
-    let n = g.s;
-    let mut i = 0;
-    while i < n {
+    for i in 0..g.s {
         drop_one(image, g, drive, i);
-        i += 1;
     }
 }

@@ -1,58 +1,40 @@
 // The slot that takes a result, and the slot that answers.
 ghost use Rattle.std.specs.Prelude.{◌≡◌};
-ghost use Rattle.geometry.specs.Frame.{Framed};
 ghost use Rattle.slots.specs.Find.{empty_slot, better, newest_of};
 
 use crate::{Best, Slot};
-use folds::Found;
-use geometry::{Block, Geometry};
+use geometry::{Block, Frame};
 
 // The lowest-numbered empty slot.
-pub fn empty_slot(image: &[u8], g: Geometry) -> Found
-    requires { Framed image.now g }
-    ensures { result ≡ empty_slot image.now g }
+pub fn empty_slot(shelf: Frame<'_>) -> Option<usize>
+    ensures { result ≡ empty_slot shelf.entry.image.now shelf.entry.g }
 {
-    let n = g.s;
-    let mut i = 0;
-    while i < n {
-        let r = crate::read_slot(image, g, i);
-        if r.kind == 0 {
-            return Found::At(i);
-        }
-        i += 1;
-    }
-    Found::Nothing
+    (0..shelf.g.s).find(|i| crate::read_slot(shelf, *i).kind == 0)
 }
 
-// The best so far, or slot i where it is the drive's result at the block, and newer.
-fn pick(b: Best, drive: usize, block: Block, i: usize, r: Slot) -> Best
-    ensures { result ≡ better drive block.0 b i r }
+// The best so far, or slot i where it is the drive's result at the block, and newer; rank 0 is never
+// newer.
+fn pick(best: Option<Best>, drive: usize, block: Block, i: usize, r: Slot) -> Option<Best>
+    ensures { result ≡ better drive block.0 best i r }
 {
-    let own = r.block;
-    if (r.kind != 0) & (r.drive == drive) & (own.0 == block.0) & (b.top < r.rank) {
-        Best {
-            top: r.rank,
-            found: Found::At(i),
-        }
+    let top = best.map_or(0, |b| b.rank);
+    if (r.kind != 0) & (r.drive == drive) & (r.block == block) & (top < r.rank) {
+        Some(Best {
+            slot: i,
+            rank: r.rank,
+        })
     } else {
-        b
+        best
     }
 }
 
 // The slot of the newest result of the drive at the block.
-pub fn newest(image: &[u8], g: Geometry, drive: usize, block: Block) -> Found
-    requires { Framed image.now g }
-    ensures { result ≡ newest_of image.now g drive block.0 }
+pub fn newest(shelf: Frame<'_>, drive: usize, block: Block) -> Option<usize>
+    ensures { result ≡ newest_of shelf.entry.image.now shelf.entry.g drive block.0 }
 {
-    let n = g.s;
-    let mut best = Best {
-        top: 0,
-        found: Found::Nothing,
-    };
-    let mut i = 0;
-    while i < n {
-        best = pick(best, drive, block, i, crate::read_slot(image, g, i));
-        i += 1;
+    let mut best = None;
+    for i in 0..shelf.g.s {
+        best = pick(best, drive, block, i, crate::read_slot(shelf, i));
     }
-    best.found
+    best.map(|b| b.slot)
 }

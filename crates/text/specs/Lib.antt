@@ -1,6 +1,9 @@
 pub mod Ascii
+pub mod Elements
 pub mod Cut
 pub mod Decimal
+pub mod Long
 pub mod Hexadecimal
 pub mod Room
 pub mod Lines
+pub mod Page

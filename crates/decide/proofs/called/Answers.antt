@@ -1,34 +1,20 @@
 -- `decide::called` meets its contract.
-use mathlib.Core.Path.{sym, ◌∙◌}
-use Rattle.image.proofs.Shelf.{valid_long, valid_framed}
+use Rattle.std.proofs.Common.{sym, ◌∙◌}
+use Rattle.std.proofs.lemmas.Option.{MatchOption-at_some, MatchOption-at_none}
+use Rattle.meaning.specs.Runs.{missing}
 use Rattle.decide.specs.Called.{called_bad, called_none, called_at}
 use Rattle.decide.proofs.called.Goals as goal
 
-pub returns-then-not-valid : goal.returns-then-not-valid
-returns-then-not-valid c = called_bad _ _ (sym c.valid.ensures ∙ c.if-not-valid.true)
+pub returns-in_err-shelf : goal.returns-in_err-shelf
+returns-in_err-shelf c = missing _ _ _ _ c.from_residual.ensures.1 c.in_err-shelf.ensures.value ∙ called_bad _ _ (MatchOption-at_none _ _ c.in_err-shelf.ensures.ok_part c.shelf_of.ensures)
 
-pub read-g-requires : goal.read-g-requires
-read-g-requires c = valid_long _ (sym c.valid.ensures ∙ c.if-not-valid.false)
+pub returns-in_err-t : goal.returns-in_err-t
+returns-in_err-t c =
+    let is = MatchOption-at_some _ _ _ c.in_ok-shelf.ensures.ok_part c.shelf_of.ensures in
+    missing _ _ _ _ c.from_residual-in_err-t.ensures.1 c.in_err-t.ensures.value
+    ∙ called_none _ _ is.0 _ is.2 (rw (← is.1) (sym c.find_target.ensures ∙ c.in_err-t.ensures.ok_part))
 
-pub find_target-requires : goal.find_target-requires
-find_target-requires c =
-    let valid = c.valid in
-    let if1 = c.if-not-valid in
-    let read = c.read-g in
-    valid_framed _ _ (sym valid.ensures ∙ if1.false) read.ensures
-
-pub returns-in-At : goal.returns-in-At
-returns-in-At c =
-    let valid = c.valid in
-    let if1 = c.if-not-valid in
-    let read = c.read-g in
-    let find-target = c.find_target in
-    called_at _ _ (sym valid.ensures ∙ if1.false) _ read.ensures _ (sym find-target.ensures ∙ c.in-At.is)
-
-pub returns-in-Nothing : goal.returns-in-Nothing
-returns-in-Nothing c =
-    let valid = c.valid in
-    let if1 = c.if-not-valid in
-    let read = c.read-g in
-    let find-target = c.find_target in
-    called_none _ _ (sym valid.ensures ∙ if1.false) _ read.ensures (sym find-target.ensures ∙ c.in-Nothing.is)
+pub returns : goal.returns
+returns c =
+    let is = MatchOption-at_some _ _ _ c.in_ok-shelf.ensures.ok_part c.shelf_of.ensures in
+    called_at _ _ is.0 _ is.2 _ (rw (← is.1) (sym c.find_target.ensures ∙ c.in_ok-t.ensures.ok_part))

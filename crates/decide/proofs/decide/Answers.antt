@@ -1,22 +1,20 @@
 -- `decide::decide` meets its contract.
-use mathlib.Core.Path.{sym, ◌∙◌}
-use Rattle.decide.specs.Called.{called_drive, called_refused}
-use Rattle.meaning.specs.declared.Decision.TheVariants.{Stop}
+use Rattle.std.proofs.Common.{Err, ap, sym, ◌∙◌}
+use Rattle.meaning.specs.Decision.{stop}
 use Rattle.meaning.specs.Checks.{decide_of}
+use Rattle.decide.specs.Called.{called_drive, called_refused}
 use Rattle.decide.specs.Joined.{decide_on}
 use Rattle.decide.proofs.decide.Goals as goal
 
-pub returns-in-Refused : goal.returns-in-Refused
+pub returns-in-Err : goal.returns-in-Err
 unfolding decide_of
-returns-in-Refused c = called_refused _ _ Stop _ _ (sym c.called.ensures ∙ c.in-Refused.is)
+returns-in-Err c = ap Err c.at.ensures ∙ called_refused _ _ stop _ _ (sym c.called.ensures ∙ c.in-Err.is)
+
+pub invariant_of-from_call_3 : goal.invariant_of-from_call_3
+invariant_of-from_call_3 c = record { framed = (called_drive _ _ c.in-Ok.g c.in-Ok.t (sym c.in-Ok.ensures)).frame }
 
 pub from_call_3-requires : goal.from_call_3-requires
-from_call_3-requires c =
-    let called = c.called in
-    let x = called_drive _ _ _ _ (sym called.ensures ∙ c.in-Drive.is) in (x.frame, x.inside)
+from_call_3-requires c = (called_drive _ _ c.in-Ok.g c.in-Ok.t (sym c.in-Ok.ensures)).inside
 
-pub returns-in-Drive : goal.returns-in-Drive
-returns-in-Drive c =
-    let from-call-3 = c.from_call_3 in
-    let called = c.called in
-    from-call-3.ensures ∙ decide_on _ _ _ _ _ _ _ (called_drive _ _ _ _ (sym called.ensures ∙ c.in-Drive.is))
+pub returns-in-Ok : goal.returns-in-Ok
+returns-in-Ok c = c.from_call_3.ensures ∙ decide_on _ _ _ _ _ _ _ (called_drive _ _ c.in-Ok.g c.in-Ok.t (sym c.in-Ok.ensures))

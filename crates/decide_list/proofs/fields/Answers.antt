@@ -1,43 +1,40 @@
 -- `decide_list::fields` meets its contract.
-use mathlib.Core.Path.{sym, ◌∙◌}
-use borrow.Author.Tests.{eq-eqb, ne_eqb}
-use Rattle.decide_list.specs.Laws.{fields_on}
-use Rattle.folds.specs.Tests.{tests}
-use Rattle.command.specs.Command.{list_sec_of}
-use Rattle.decide_list.specs.Stages.{fields_of}
+use mathlib.Core.Path.{◌∙◌}
+use Rattle.std.proofs.Common.{eqb-true}
+use Rattle.std.proofs.lemmas.Bool.{not-false}
+use Rattle.meaning.specs.Runs.{decides, passes}
+use Rattle.command.specs.Sent.{list_fits}
+use Rattle.meaning.specs.Runs.{passed}
+use Rattle.decide_list.specs.Stages.{fields_of, counted_of}
 use Rattle.decide_list.proofs.fields.Goals as goal
 
-pub returns-then-sec-eq1 : goal.returns-then-sec-eq1
-unfolding fields_of
-returns-then-sec-eq1 c =
-    let args = c.args in
-    let list-sec = c.list_sec-sec in
-    let if1 = c.if-sec-eq1 in
-    search (tests, eq-eqb (list_sec_of args.k) 1 (sym list-sec.ensures.0 ∙ if1.true))
+pub listed-requires : goal.listed-requires
+listed-requires c = list_fits _ _ _ (eqb-true _ _ (not-false _ (passed _ _ _ c.in_ok-check-6.ensures)) ∙ c.list_bytes-due.ensures)
 
-pub returns-then-sec-eq3 : goal.returns-then-sec-eq3
-unfolding fields_of
-returns-then-sec-eq3 c =
-    let k = c.args.k in
-    let list-sec = c.list_sec-sec in
-    let not-1 = ne_eqb (list_sec_of k) 1 (λ e. c.if-sec-eq1.false (list-sec.ensures.0 ∙ e)) in
-    search (tests, not-1, eq-eqb (list_sec_of k) 3 (sym list-sec.ensures.0 ∙ c.if-sec-eq3.true))
+pub returns-in_err-check : goal.returns-in_err-check
+unfolding fields_of counted_of
+returns-in_err-check c = rw (← c.list_sec-sec.ensures.0, ← c.list_bytes-due.ensures) (decides _ _ _ _ _ c.from_residual.ensures.1 c.in_err-check.ensures)
 
-pub returns-then-long : goal.returns-then-long
-unfolding fields_of
-returns-then-long c =
-    let k = c.args.k in
-    let list-sec = c.list_sec-sec in
-    let not-1 = ne_eqb (list_sec_of k) 1 (λ e. c.if-sec-eq1.false (list-sec.ensures.0 ∙ e)) in
-    let not-3 = ne_eqb (list_sec_of k) 3 (λ e. c.if-sec-eq3.false (list-sec.ensures.0 ∙ e)) in
-    search (tests, not-1, not-3, c.if-long.true)
+pub returns-in_err-check-2 : goal.returns-in_err-check-2
+unfolding fields_of counted_of
+returns-in_err-check-2 c = rw (← c.list_sec-sec.ensures.0, ← c.list_bytes-due.ensures) (passes _ _ _ c.in_ok-check.ensures (decides _ _ _ _ _ c.from_residual-in_err-check-2.ensures.1 c.in_err-check-2.ensures))
+
+pub returns-in_err-check-3 : goal.returns-in_err-check-3
+unfolding fields_of counted_of
+returns-in_err-check-3 c = rw (← c.list_sec-sec.ensures.0, ← c.list_bytes-due.ensures) (passes _ _ _ c.in_ok-check.ensures (passes _ _ _ c.in_ok-check-2.ensures (decides _ _ _ _ _ c.from_residual-in_err-check-3.ensures.1 c.in_err-check-3.ensures)))
+
+pub returns-in_err-check-4 : goal.returns-in_err-check-4
+unfolding fields_of counted_of
+returns-in_err-check-4 c = rw (← c.list_sec-sec.ensures.0, ← c.list_bytes-due.ensures) (passes _ _ _ c.in_ok-check.ensures (passes _ _ _ c.in_ok-check-2.ensures (passes _ _ _ c.in_ok-check-3.ensures (decides _ _ _ _ _ c.from_residual-in_err-check-4.ensures.1 c.in_err-check-4.ensures))))
+
+pub returns-in_err-check-5 : goal.returns-in_err-check-5
+unfolding fields_of counted_of
+returns-in_err-check-5 c = rw (← c.list_sec-sec.ensures.0, ← c.list_bytes-due.ensures) (passes _ _ _ c.in_ok-check.ensures (passes _ _ _ c.in_ok-check-2.ensures (passes _ _ _ c.in_ok-check-3.ensures (passes _ _ _ c.in_ok-check-4.ensures (decides _ _ _ _ _ c.from_residual-in_err-check-5.ensures.1 c.in_err-check-5.ensures)))))
+
+pub returns-in_err-check-6 : goal.returns-in_err-check-6
+unfolding fields_of counted_of
+returns-in_err-check-6 c = rw (← c.list_sec-sec.ensures.0, ← c.list_bytes-due.ensures) (passes _ _ _ c.in_ok-check.ensures (passes _ _ _ c.in_ok-check-2.ensures (passes _ _ _ c.in_ok-check-3.ensures (passes _ _ _ c.in_ok-check-4.ensures (passes _ _ _ c.in_ok-check-5.ensures (decides _ _ _ _ _ c.from_residual-in_err-check-6.ensures.1 c.in_err-check-6.ensures))))))
 
 pub returns : goal.returns
-returns c =
-    let counted = c.counted in
-    let list-sec = c.list_sec-sec in
-    let if1 = c.if-sec-eq1 in
-    let if2 = c.if-sec-eq3 in
-    let if3 = c.if-long in
-    let list-bytes = c.list_bytes in
-    counted.ensures ∙ fields_on _ _ _ _ _ _ _ _ _ list-sec.ensures.0 if1.false if2.false if3.false list-bytes.ensures
+unfolding fields_of counted_of
+returns c = rw (← c.list_sec-sec.ensures.0, ← c.list_bytes-due.ensures) (passes _ _ _ c.in_ok-check.ensures (passes _ _ _ c.in_ok-check-2.ensures (passes _ _ _ c.in_ok-check-3.ensures (passes _ _ _ c.in_ok-check-4.ensures (passes _ _ _ c.in_ok-check-5.ensures (passes _ _ _ c.in_ok-check-6.ensures (c.listed.ensures)))))))

@@ -1,7 +1,8 @@
 -- `decide_list::rebuild` meets its contract.
-use mathlib.Core.Path.{◌∙◌}
-use Rattle.decide_list.specs.Laws.{rebuild_on}
+use Rattle.std.proofs.Common.{◌∙◌}
+use Rattle.decide_list.specs.Stages.{rebuild_of}
 use Rattle.decide_list.proofs.rebuild.Goals as goal
 
 pub returns : goal.returns
-returns c = c.fields.ensures ∙ rebuild_on _ _ _ _ _ _ c.unbounded.ensures
+unfolding rebuild_of
+returns c = c.fields.ensures ∙ rw c.unbounded.ensures

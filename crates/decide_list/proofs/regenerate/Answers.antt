@@ -1,8 +1,7 @@
 -- `decide_list::regenerate` meets its contract.
-use Rattle.folds.specs.Tests.{tests}
 use Rattle.decide_list.specs.Stages.{regenerate_of}
 use Rattle.decide_list.proofs.regenerate.Goals as goal
 
 pub returns : goal.returns
 unfolding regenerate_of
-returns c = search tests
+returns c = c.fields.ensures

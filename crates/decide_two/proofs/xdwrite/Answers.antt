@@ -1,56 +1,34 @@
 -- `decide_two::xdwrite` meets its contract.
 use mathlib.Core.Path.{refl, sym, ◌∙◌}
 use borrow.Author.Tests.{eq-eqb, ne_eqb}
-use Rattle.folds.specs.Tests.{tests}
 use Rattle.folds.proofs.Least.{at_nothing}
 use Rattle.drives.specs.Lookup.{drive_inside}
-use Rattle.command.specs.Command.{sec_of, ndisc_of}
+use Rattle.meaning.specs.Runs.{decides, passes}
 use Rattle.decide_two.specs.Stages.{xdwrite_of}
 use Rattle.decide_two.proofs.xdwrite.Goals as goal
 
-pub returns-then-sec-eq1 : goal.returns-then-sec-eq1
+pub returns-in_err-check : goal.returns-in_err-check
 unfolding xdwrite_of
-returns-then-sec-eq1 c = search (tests, sym c.sec-sec.ensures.0 ∙ c.if-sec-eq1.true)
+returns-in_err-check c = rw (← c.sec-sec.ensures.0) (decides _ _ _ _ _ c.from_residual.ensures.1 c.in_err-check.ensures)
 
 pub limited-requires : goal.limited-requires
-limited-requires c =
-    let pre = c.requires in
-    (pre.0, pre.1, λ j e. absurd (at_nothing e refl))
+limited-requires c = λ j e. absurd (at_nothing e refl)
 
 pub returns-then-sec-eq3 : goal.returns-then-sec-eq3
 unfolding xdwrite_of
-returns-then-sec-eq3 c =
-    let limited = c.limited in
-    let sec = c.sec-sec in
-    let if2 = c.if-sec-eq3 in
-    limited.ensures ∙ search (tests, sym sec.ensures.0 ∙ if2.true)
+returns-then-sec-eq3 c = rw (← c.sec-sec.ensures.0, eq-eqb _ 3 c.if-sec-eq3.true) (passes _ _ _ c.in_ok-check.ensures c.limited.ensures)
 
-pub returns-then-ndisc-eq1 : goal.returns-then-ndisc-eq1
+pub returns-in_err-check-2 : goal.returns-in_err-check-2
 unfolding xdwrite_of
-returns-then-ndisc-eq1 c =
-    let k = c.args.k in
-    let ndisc = c.ndisc-ndisc in
-    let sec = c.sec-sec in
-    let not-1 = ne_eqb (sec_of k) 1 (λ e. c.if-sec-eq1.false (sec.ensures.0 ∙ e)) in
-    let not-3 = ne_eqb (sec_of k) 3 (λ e. c.if-sec-eq3.false (sec.ensures.0 ∙ e)) in
-    let alone = eq-eqb (ndisc_of k) 1 (sym ndisc.ensures.0 ∙ c.if-ndisc-eq1.true) in
-    search (tests, alone, not-1, not-3)
+returns-in_err-check-2 c =
+    rw (← c.sec-sec.ensures.0, ne_eqb _ 3 c.if-sec-eq3.false, ← c.ndisc.ensures)
+    (passes _ _ _ c.in_ok-check.ensures (decides _ _ _ _ _ c.from_residual-in_err-check-2.ensures.1 c.in_err-check-2.ensures))
 
 pub limited-requires-2 : goal.limited-requires-2
-limited-requires-2 c =
-    let pre = c.requires in
-    let find-secondary = c.find_secondary-there in
-    (pre.0, pre.1, λ j e. (drive_inside _ _ _ j (sym find-secondary.ensures ∙ e)).0)
+limited-requires-2 c = λ j e. (drive_inside _ _ _ j (sym c.find_secondary-there.ensures ∙ e)).0
 
 pub returns : goal.returns
 unfolding xdwrite_of
 returns c =
-    let find-secondary = c.find_secondary-there in
-    let is_at = c.is_at in
-    let k = c.args.k in
-    let sec = c.sec-sec in
-    let ndisc = c.ndisc-ndisc in
-    let not-1 = ne_eqb (sec_of k) 1 (λ e. c.if-sec-eq1.false (sec.ensures.0 ∙ e)) in
-    let not-3 = ne_eqb (sec_of k) 3 (λ e. c.if-sec-eq3.false (sec.ensures.0 ∙ e)) in
-    let not-alone = ne_eqb (ndisc_of k) 1 (λ e. c.if-ndisc-eq1.false (ndisc.ensures.0 ∙ e)) in
-    c.limited-2.ensures ∙ search (tests, find-secondary.ensures, is_at.ensures, not-1, not-3, not-alone)
+    rw (← c.sec-sec.ensures.0, ne_eqb _ 3 c.if-sec-eq3.false, ← c.ndisc.ensures)
+    (passes _ _ _ c.in_ok-check.ensures (passes _ _ _ c.in_ok-check-2.ensures (c.limited-2.ensures ∙ rw (c.is_at.ensures, c.find_secondary-there.ensures))))

@@ -7,22 +7,18 @@ use Rattle.shelf.proofs.mark.Goals as goal
 
 pub returns-then-state-gt1 : goal.returns-then-state-gt1
 returns-then-state-gt1 c =
-    let called = c.called in
-    let if1 = c.if-state-gt1 in
-    mark_state _ _ _ _ (called_drive _ _ _ _ (sym called.ensures ∙ c.in-Drive.is)) _ if1.true
+    let t = called_drive _ _ c.in-Ok.g c.in-Ok.i (sym c.in-Ok.ensures) in
+    mark_state _ _ _ _ t _ c.if-state-gt1.true
 
 pub mark-requires : goal.mark-requires
 mark-requires c =
-    let called = c.called in
-    let if1 = c.if-state-gt1 in
-    let t = called_drive _ _ _ _ (sym called.ensures ∙ c.in-Drive.is) in (t.frame, t.inside, omega (arith, if1.false))
+    let t = called_drive _ _ c.in-Ok.g c.in-Ok.i (sym c.in-Ok.ensures) in
+    (t.frame, t.inside, omega (arith, c.if-state-gt1.false))
 
-pub returns-in-Refused : goal.returns-in-Refused
-returns-in-Refused c = mark_refused _ _ _ (sym c.called.ensures ∙ c.in-Refused.is) _
+pub returns-in-Err : goal.returns-in-Err
+returns-in-Err c = mark_refused _ _ _ (sym c.called.ensures ∙ c.in-Err.is) _
 
 pub returns-else-state-gt1 : goal.returns-else-state-gt1
 returns-else-state-gt1 c =
-    let called = c.called in
-    let if1 = c.if-state-gt1 in
-    let mark = c.mark in
-    mark_done _ _ _ _ (called_drive _ _ _ _ (sym called.ensures ∙ c.in-Drive.is)) _ if1.false _ mark.ensures
+    let t = called_drive _ _ c.in-Ok.g c.in-Ok.i (sym c.in-Ok.ensures) in
+    mark_done _ _ _ _ t _ c.if-state-gt1.false _ c.mark.ensures

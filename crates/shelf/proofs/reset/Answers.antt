@@ -5,15 +5,10 @@ use Rattle.shelf.specs.Opened.{reset_refused, reset_done}
 use Rattle.shelf.proofs.reset.Goals as goal
 
 pub drop_drive-requires : goal.drop_drive-requires
-drop_drive-requires c =
-    let called = c.called in
-    (called_drive _ _ _ _ (sym called.ensures ∙ c.in-Drive.is)).frame
+drop_drive-requires c = (called_drive _ _ c.in-Ok.g c.in-Ok.i (sym c.in-Ok.ensures)).frame
 
-pub returns-in-Refused : goal.returns-in-Refused
-returns-in-Refused c = reset_refused _ _ _ (sym c.called.ensures ∙ c.in-Refused.is)
+pub returns-in-Err : goal.returns-in-Err
+returns-in-Err c = reset_refused _ _ _ (sym c.called.ensures ∙ c.in-Err.is)
 
-pub returns-in-Drive : goal.returns-in-Drive
-returns-in-Drive c =
-    let called = c.called in
-    let drop-drive = c.drop_drive in
-    reset_done _ _ _ _ (called_drive _ _ _ _ (sym called.ensures ∙ c.in-Drive.is)) _ drop-drive.ensures
+pub returns-in-Ok : goal.returns-in-Ok
+returns-in-Ok c = reset_done _ _ _ _ (called_drive _ _ c.in-Ok.g c.in-Ok.i (sym c.in-Ok.ensures)) _ c.drop_drive.ensures

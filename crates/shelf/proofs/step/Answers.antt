@@ -7,26 +7,15 @@ use Rattle.shelf.specs.Licensed.{licensed}
 use Rattle.shelf.proofs.step.Goals as goal
 
 pub read-g-requires : goal.read-g-requires
-read-g-requires c =
-    let decide = c.decide in
-    framed_long _ (granted _ _ _ _ _ _ _ (sym decide.ensures ∙ c.in-Go.is)).valid.framed_fine
+read-g-requires c = framed_long _ (granted _ _ _ _ _ _ _ (sym c.decide.ensures ∙ c.in-Ok.is)).valid.framed_fine
 
 pub carry_out-count-requires : goal.carry_out-count-requires
-carry_out-count-requires c =
-    let read = c.read-g in
-    let decide = c.decide in
-    licensed _ _ _ _ _ _ _ _ read.ensures (sym decide.ensures ∙ c.in-Go.is)
+carry_out-count-requires c = licensed _ _ _ _ _ _ _ _ c.read-g.ensures (sym c.decide.ensures ∙ c.in-Ok.is)
 
-pub returns-in-Stop : goal.returns-in-Stop
-returns-in-Stop c =
-    let decide = c.decide in
-    let outcome-of = c.outcome_of in
-    stopped _ _ _ _ _ _ _ _ _ (sym decide.ensures ∙ c.in-Stop.is) outcome-of.ensures
+pub returns-in-Err : goal.returns-in-Err
+returns-in-Err c = stopped _ _ _ _ _ _ _ _ _ (sym c.decide.ensures ∙ c.in-Err.is) c.outcome_of.ensures
 
-pub returns-in-Go : goal.returns-in-Go
-returns-in-Go c =
-    let decide = c.decide in
-    let read = c.read-g in
-    let carry-out = c.carry_out-count in
-    let outcome-of2 = c.outcome_of-in-Go in
-    went _ _ _ _ _ _ _ _ _ _ _ _ (sym decide.ensures ∙ c.in-Go.is) read.ensures carry-out.ensures.0 carry-out.ensures.1 carry-out.ensures.2 outcome-of2.ensures
+pub returns-in-Ok : goal.returns-in-Ok
+returns-in-Ok c =
+    let done = c.carry_out-count.ensures in
+    went _ _ _ _ _ _ _ _ _ _ _ _ (sym c.decide.ensures ∙ c.in-Ok.is) c.read-g.ensures done.0 done.1 done.2 c.outcome_of-in-Ok.ensures

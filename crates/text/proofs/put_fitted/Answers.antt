@@ -1,4 +1,5 @@
 -- `text::put_fitted` meets its contract.
+use Rattle.std.proofs.Common.{rules}
 use Rattle.text.specs.Room.{fits, unfitted}
 use Rattle.text.proofs.put_fitted.Goals as goal
 
@@ -9,5 +10,5 @@ returns-then-out-word c =
 
 pub returns : goal.returns
 returns c =
-    let p = fits _ _ _ _ c.if-out-word.false c.put_word.ensures in
-    record { value = p.0; out_after = p.1 }
+    let p = fits _ _ _ _ c.if-out-word.false c.put_word.ensures.wrote in
+    record { value = p.0; out_after = search rules }

@@ -1,36 +1,30 @@
 -- `decide_list::list::headed` meets its contract.
-use mathlib.Core.Path.{◌∙◌}
-use Rattle.folds.specs.Tests.{tests}
+use Rattle.std.proofs.Common.{arith, eqb-true}
+use Rattle.std.proofs.lemmas.Bool.{not-false}
+use Rattle.meaning.specs.Runs.{decides, passes}
+use Rattle.meaning.specs.Runs.{passed}
 use Rattle.decide_list.specs.Stages.{headed_of}
 use Rattle.decide_list.proofs.list.headed.Goals as goal
 
-pub returns-then-list-n : goal.returns-then-list-n
-unfolding headed_of
-returns-then-list-n c = rw (← c.byte-n.ensures.0) (search tests)
+pub owned-requires : goal.owned-requires
+owned-requires c = let e = eqb-true _ _ (not-false _ (passed _ _ _ c.in_ok-check.ensures)) in omega (arith, e, c.requires.0)
 
-pub returns-then-n-eq0 : goal.returns-then-n-eq0
+pub returns-in_err-check : goal.returns-in_err-check
 unfolding headed_of
-returns-then-n-eq0 c = rw (← c.byte-n.ensures.0) (search tests)
+returns-in_err-check c = rw (← c.byte-n.ensures.0, ← c.byte-kind.ensures.0, ← c.be-zeros.ensures.0) (decides _ _ _ _ _ c.from_residual.ensures.1 c.in_err-check.ensures)
 
-pub returns-then-byte-ne1 : goal.returns-then-byte-ne1
+pub returns-in_err-check-2 : goal.returns-in_err-check-2
 unfolding headed_of
-returns-then-byte-ne1 c =
-    let byte = c.byte-n in
-    let byte2 = c.byte in
-    rw (← byte.ensures.0, ← byte2.ensures.0) (search tests)
+returns-in_err-check-2 c = rw (← c.byte-n.ensures.0, ← c.byte-kind.ensures.0, ← c.be-zeros.ensures.0) (passes _ _ _ c.in_ok-check.ensures (decides _ _ _ _ _ c.from_residual-in_err-check-2.ensures.1 c.in_err-check-2.ensures))
 
-pub returns-then-be2-ne0 : goal.returns-then-be2-ne0
+pub returns-in_err-check-3 : goal.returns-in_err-check-3
 unfolding headed_of
-returns-then-be2-ne0 c =
-    let byte = c.byte-n in
-    let byte2 = c.byte in
-    let be2 = c.be2 in
-    rw (← byte.ensures.0, ← byte2.ensures.0, ← be2.ensures.0) (search tests)
+returns-in_err-check-3 c = rw (← c.byte-n.ensures.0, ← c.byte-kind.ensures.0, ← c.be-zeros.ensures.0) (passes _ _ _ c.in_ok-check.ensures (passes _ _ _ c.in_ok-check-2.ensures (decides _ _ _ _ _ c.from_residual-in_err-check-3.ensures.1 c.in_err-check-3.ensures)))
+
+pub returns-in_err-check-4 : goal.returns-in_err-check-4
+unfolding headed_of
+returns-in_err-check-4 c = rw (← c.byte-n.ensures.0, ← c.byte-kind.ensures.0, ← c.be-zeros.ensures.0) (passes _ _ _ c.in_ok-check.ensures (passes _ _ _ c.in_ok-check-2.ensures (passes _ _ _ c.in_ok-check-3.ensures (decides _ _ _ _ _ c.from_residual-in_err-check-4.ensures.1 c.in_err-check-4.ensures))))
 
 pub returns : goal.returns
 unfolding headed_of
-returns c =
-    let byte = c.byte-n in
-    let byte2 = c.byte in
-    let be2 = c.be2 in
-    c.owned.ensures ∙ rw (← byte.ensures.0, ← byte2.ensures.0, ← be2.ensures.0) (search tests)
+returns c = rw (← c.byte-n.ensures.0, ← c.byte-kind.ensures.0, ← c.be-zeros.ensures.0) (passes _ _ _ c.in_ok-check.ensures (passes _ _ _ c.in_ok-check-2.ensures (passes _ _ _ c.in_ok-check-3.ensures (passes _ _ _ c.in_ok-check-4.ensures (c.owned.ensures)))))

@@ -1,17 +1,21 @@
 -- `decide_list::list::listed` meets its contract.
-use mathlib.Core.Path.{◌∙◌}
-use Rattle.folds.specs.Tests.{tests}
+use Rattle.std.proofs.Common.{ltb-false}
+use Rattle.meaning.specs.Runs.{decides, passes}
+use Rattle.meaning.specs.Runs.{passed}
 use Rattle.decide_list.specs.Stages.{list_sized_of}
-use Rattle.decide_list.specs.Laws.{listed_on}
 use Rattle.decide_list.proofs.list.listed.Goals as goal
 
-pub returns-then-list-eq0 : goal.returns-then-list-eq0
-unfolding list_sized_of
-returns-then-list-eq0 c = search tests
+pub headed-requires : goal.headed-requires
+headed-requires c = (c.requires, ltb-false _ _ (passed _ _ _ c.in_ok-check-2.ensures))
 
-pub returns-then-list-lt8 : goal.returns-then-list-lt8
+pub returns-in_err-check : goal.returns-in_err-check
 unfolding list_sized_of
-returns-then-list-lt8 c = search tests
+returns-in_err-check c = decides _ _ _ _ _ c.from_residual.ensures.1 c.in_err-check.ensures
+
+pub returns-in_err-check-2 : goal.returns-in_err-check-2
+unfolding list_sized_of
+returns-in_err-check-2 c = passes _ _ _ c.in_ok-check.ensures (decides _ _ _ _ _ c.from_residual-in_err-check-2.ensures.1 c.in_err-check-2.ensures)
 
 pub returns : goal.returns
-returns c = c.headed.ensures ∙ listed_on _ _ _ _ _ _ c.if-list-eq0.false c.if-list-lt8.false
+unfolding list_sized_of
+returns c = passes _ _ _ c.in_ok-check.ensures (passes _ _ _ c.in_ok-check-2.ensures (c.headed.ensures))

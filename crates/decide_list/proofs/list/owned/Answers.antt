@@ -1,21 +1,17 @@
 -- `decide_list::list::owned` meets its contract.
-use mathlib.Core.Path.{sym, ◌∙◌}
-use Rattle.decide_list.specs.Laws.{owned_at, owned_empty, owned_on}
+use Rattle.std.proofs.Common.{Err, ap, sym, ◌∙◌}
+use Rattle.meaning.specs.Runs.{decides, passes}
+use Rattle.decide_list.specs.Stages.{owned_of, length_of}
 use Rattle.decide_list.proofs.list.owned.Goals as goal
 
-pub returns-in-At : goal.returns-in-At
-returns-in-At c = owned_at _ _ _ _ _ _ _ _ _ (sym c.own_entry.ensures ∙ c.in-At.is)
+pub returns-in-Some : goal.returns-in-Some
+unfolding owned_of
+returns-in-Some c = ap Err c.at.ensures ∙ rw (sym c.own_entry-own.ensures ∙ c.in-Some.is)
 
-pub returns-then-count-eq0 : goal.returns-then-count-eq0
-returns-then-count-eq0 c =
-    let own-entry = c.own_entry in
-    owned_empty _ _ _ _ _ _ _ _ (sym own-entry.ensures ∙ c.in_default.is) c.if-count-eq0.true
+pub returns-in_err-check : goal.returns-in_err-check
+unfolding owned_of length_of
+returns-in_err-check c = rw (sym c.own_entry-own.ensures ∙ c.in_default.is) (decides _ _ _ _ _ c.from_residual.ensures.1 c.in_err-check.ensures)
 
 pub returns : goal.returns
-returns c =
-    let resolve = c.resolve in
-    let own = c.own-own in
-    let if1 = c.if-count-eq0 in
-    let own-entry = c.own_entry in
-    c.placed.ensures
-    ∙ owned_on _ _ _ _ _ _ _ _ (sym own-entry.ensures ∙ c.in_default.is) _ _ resolve.ensures.0 own.ensures.0 if1.false
+unfolding owned_of length_of
+returns c = rw (sym c.own_entry-own.ensures ∙ c.in_default.is) (passes _ _ _ c.in_ok-check.ensures (c.placed.ensures ∙ rw (c.resolve-command.ensures.0, c.own-placed.ensures.0)))

@@ -1,22 +1,18 @@
 -- `decide_list::sources::placed` meets its contract.
 use mathlib.Core.Path.{◌∙◌}
-use Rattle.folds.specs.Tests.{tests}
-use Rattle.decide_list.specs.Stages.{placed_of}
-use Rattle.decide_list.specs.Laws.{placed_rebuild}
+use Rattle.meaning.specs.Runs.{decides}
+use Rattle.decide_list.specs.Stages.{rebuilt_of, placed_of}
+use Rattle.meaning.specs.Runs.{passes}
 use Rattle.decide_list.proofs.sources.placed.Goals as goal
-
-pub returns-then-blocks-block : goal.returns-then-blocks-block
-unfolding placed_of
-returns-then-blocks-block c = search tests
 
 pub returns-then-keep : goal.returns-then-keep
 unfolding placed_of
-returns-then-keep c = search (tests, c.if-keep.true)
+returns-then-keep c = rw c.if-keep.true (passes _ _ _ c.in_ok-check.ensures c.regenerated.ensures)
 
 pub returns : goal.returns
-returns c =
-    let if1 = c.if-blocks-block in
-    let if2 = c.if-keep in
-    let span = c.span in
-    let sum_of = c.sum_of in
-    c.sourced.ensures ∙ placed_rebuild _ _ _ _ _ _ _ _ span.ensures sum_of.ensures _ if1.false if2.false
+unfolding placed_of rebuilt_of
+returns c = rw c.if-keep.false (passes _ _ _ c.in_ok-check.ensures (c.sourced.ensures ∙ rw (c.span.ensures, c.sum_of.ensures)))
+
+pub returns-in_err-check : goal.returns-in_err-check
+unfolding placed_of
+returns-in_err-check c = decides _ _ _ _ _ c.from_residual.ensures.1 c.in_err-check.ensures

@@ -1,20 +1,13 @@
 -- `decide_list::sources::sourced` meets its contract.
-use mathlib.Core.Path.{sym, ◌∙◌}
+use Rattle.std.proofs.Common.{sym, ◌∙◌}
+use Rattle.meaning.specs.Runs.{exits}
 use Rattle.decide_list.specs.Stages.{fault_or}
 use Rattle.decide_list.proofs.sources.sourced.Goals as goal
 
-pub returns-in-Clear : goal.returns-in-Clear
+pub returns-in_err-first_bad : goal.returns-in_err-first_bad
 unfolding fault_or
-returns-in-Clear c = rw (sym c.first_bad.ensures ∙ c.in-Clear.is)
+returns-in_err-first_bad c = rw (sym c.in_err-first_bad.ensures) (exits _ _ c.from_residual.ensures.1)
 
-pub returns-in-Absent : goal.returns-in-Absent
+pub returns : goal.returns
 unfolding fault_or
-returns-in-Absent c = rw (sym c.first_bad.ensures ∙ c.in-Absent.is)
-
-pub returns-in-Failed : goal.returns-in-Failed
-unfolding fault_or
-returns-in-Failed c = rw (sym c.first_bad.ensures ∙ c.in-Failed.is)
-
-pub returns-in-Beyond : goal.returns-in-Beyond
-unfolding fault_or
-returns-in-Beyond c = rw (sym c.first_bad.ensures ∙ c.in-Beyond.is)
+returns c = c.accept.ensures ∙ rw (sym c.in_ok-first_bad.ensures)

@@ -1,29 +1,35 @@
 -- `decide_one::newest::matched` meets its contract.
-use mathlib.Core.Path.{sym, ◌∙◌}
+use Rattle.std.proofs.Common.{Ok, Err, ap, sym, ◌∙◌}
 use Rattle.results.specs.Best.{newest_at}
-use Rattle.decide_one.specs.Laws.{matched_at, matched_other, matched_none}
+use Rattle.sense.specs.declared.Answer.TheVariants.{Good}
+use Rattle.meaning.specs.declared.Act.TheVariants.{XdRead}
+use Rattle.meaning.specs.Decision.{go}
+use Rattle.meaning.specs.Runs.{missing, decides, passes, run_decides, run_passes}
+use Rattle.decide_one.specs.Stages.{matched_of, answered_of}
+use Rattle.decide_one.specs.Laws.{roomy_stands}
 use Rattle.decide_one.proofs.newest.matched.Goals as goal
 
-pub returns-in_default : goal.returns-in_default
-returns-in_default c = matched_none _ _ _ _ _ _ (sym c.newest.ensures ∙ c.in_default.is)
+pub returns-in_err-i : goal.returns-in_err-i
+unfolding matched_of
+returns-in_err-i c =
+    missing _ _ _ _ c.from_residual.ensures.1 c.in_err-i.ensures.value ∙ ap Err c.at.ensures ∙ rw (sym c.newest-found.ensures ∙ c.in_err-i.ensures.ok_part)
 
 pub read_slot-held-requires : goal.read_slot-held-requires
-read_slot-held-requires c =
-    let pre = c.requires in
-    let newest = c.newest in
-    (pre.0, (newest_at _ _ _ _ _ (sym newest.ensures ∙ c.in-At.is)).inside)
+read_slot-held-requires c = (newest_at _ _ _ _ _ (sym c.newest-found.ensures ∙ c.in_ok-i.ensures.ok_part)).inside
 
-pub returns-then-held-k : goal.returns-then-held-k
-returns-then-held-k c =
-    let read-slot = c.read_slot-held in
-    let newest = c.newest in
-    matched_other _ _ _ _ _ _ _ _ (sym newest.ensures ∙ c.in-At.is) read-slot.ensures.0 c.if-held-k.true
+pub returns-in_err-check : goal.returns-in_err-check
+unfolding matched_of answered_of
+returns-in_err-check c =
+    rw (sym c.newest-found.ensures ∙ c.in_ok-i.ensures.ok_part, ← c.read_slot-held.ensures.0) (decides _ _ _ _ _ c.from_residual-in_err-check.ensures.1 c.in_err-check.ensures)
+
+pub returns-in_err-roomy : goal.returns-in_err-roomy
+unfolding matched_of answered_of
+returns-in_err-roomy c =
+    rw (sym c.newest-found.ensures ∙ c.in_ok-i.ensures.ok_part, ← c.read_slot-held.ensures.0)
+    (passes _ _ _ c.in_ok-check.ensures (run_decides _ _ _ _ c.from_residual-in_err-roomy.ensures.1 c.in_err-roomy.ensures ∙ roomy_stands _ _ (Ok tt) _ _))
 
 pub returns : goal.returns
+unfolding matched_of answered_of
 returns c =
-    let span = c.span in
-    let roomy = c.roomy-v in
-    let if1 = c.if-held-k in
-    let read-slot = c.read_slot-held in
-    let newest = c.newest in
-    c.settle.ensures ∙ matched_at _ _ _ _ _ _ _ _ (sym newest.ensures ∙ c.in-At.is) read-slot.ensures.0 _ _ if1.false span.ensures roomy.ensures
+    rw (sym c.newest-found.ensures ∙ c.in_ok-i.ensures.ok_part, ← c.read_slot-held.ensures.0)
+    (passes _ _ _ c.in_ok-check.ensures (run_passes _ _ _ c.in_ok-roomy.ensures (c.accept.ensures ∙ ap (λ x. go (XdRead x c.in_ok-i.i) Good) c.span.ensures) ∙ roomy_stands _ _ (Ok tt) _ _))

@@ -1,17 +1,28 @@
 -- `decide_one::plain::limited` meets its contract.
-use mathlib.Core.Path.{◌∙◌}
-use Rattle.folds.specs.Tests.{tests}
-use Rattle.decide_one.specs.Stages.{limited_verdict}
-use Rattle.decide_one.specs.Laws.{limited_on}
+use Rattle.meaning.specs.Runs.{decides, passes}
+use Rattle.decide_one.specs.Stages.{limited_verdict, plain_verdict}
 use Rattle.decide_one.proofs.plain.limited.Goals as goal
 
-pub returns-then-six-ne0 : goal.returns-then-six-ne0
-unfolding limited_verdict
-returns-then-six-ne0 c = search tests
+pub returns-in_err-check : goal.returns-in_err-check
+unfolding limited_verdict plain_verdict
+returns-in_err-check c = decides _ _ _ _ _ c.from_residual.ensures.1 c.in_err-check.ensures
 
-pub returns-then-limit-count : goal.returns-then-limit-count
-unfolding limited_verdict
-returns-then-limit-count c = search tests
+pub returns-in_err-check-2 : goal.returns-in_err-check-2
+unfolding limited_verdict plain_verdict
+returns-in_err-check-2 c = passes _ _ _ c.in_ok-check.ensures (decides _ _ _ _ _ c.from_residual-in_err-check-2.ensures.1 c.in_err-check-2.ensures)
+
+pub returns-in_err-check-3 : goal.returns-in_err-check-3
+unfolding limited_verdict plain_verdict
+returns-in_err-check-3 c = passes _ _ _ c.in_ok-check.ensures (passes _ _ _ c.in_ok-check-2.ensures (decides _ _ _ _ _ c.from_residual-in_err-check-3.ensures.1 c.in_err-check-3.ensures))
+
+pub returns-in_err-check-4 : goal.returns-in_err-check-4
+unfolding limited_verdict plain_verdict
+returns-in_err-check-4 c = passes _ _ _ c.in_ok-check.ensures (passes _ _ _ c.in_ok-check-2.ensures (passes _ _ _ c.in_ok-check-3.ensures (decides _ _ _ _ _ c.from_residual-in_err-check-4.ensures.1 c.in_err-check-4.ensures)))
+
+pub returns-in_err-check-5 : goal.returns-in_err-check-5
+unfolding limited_verdict plain_verdict
+returns-in_err-check-5 c = passes _ _ _ c.in_ok-check.ensures (passes _ _ _ c.in_ok-check-2.ensures (passes _ _ _ c.in_ok-check-3.ensures (passes _ _ _ c.in_ok-check-4.ensures (decides _ _ _ _ _ c.from_residual-in_err-check-5.ensures.1 c.in_err-check-5.ensures))))
 
 pub returns : goal.returns
-returns c = c.plain.ensures ∙ limited_on _ _ _ _ _ c.if-six-ne0.false c.if-limit-count.false
+unfolding limited_verdict plain_verdict
+returns c = passes _ _ _ c.in_ok-check.ensures (passes _ _ _ c.in_ok-check-2.ensures (passes _ _ _ c.in_ok-check-3.ensures (passes _ _ _ c.in_ok-check-4.ensures (passes _ _ _ c.in_ok-check-5.ensures (c.check-6.ensures)))))

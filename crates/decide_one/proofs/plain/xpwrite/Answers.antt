@@ -1,15 +1,18 @@
 -- `decide_one::plain::xpwrite` meets its contract.
 use mathlib.Core.Path.{◌∙◌}
-use native.Mathlib.Omega.{arith}
-use Rattle.command.specs.Length.{bytes_small}
-use Rattle.decide_one.specs.Laws.{xpwrite_on}
+use Rattle.std.proofs.Common.{ap}
+use Rattle.meaning.specs.Runs.{run_decides, run_passes}
+use Rattle.sense.specs.declared.Answer.TheVariants.{Good}
+use Rattle.meaning.specs.declared.Act.TheVariants.{XpWrite}
+use Rattle.meaning.specs.Decision.{go}
+use Rattle.decide_one.specs.Stages.{xpwrite_of}
+use Rattle.decide_one.specs.Laws.{at_most}
 use Rattle.decide_one.proofs.plain.xpwrite.Goals as goal
 
-pub overflow_mul-k : goal.overflow_mul-k
-overflow_mul-k c =
-    let args = c.args in
-    let pre = c.requires in
-    omega (arith, bytes_small args.k args.g pre.1 pre.0)
+pub returns-in_err-limited : goal.returns-in_err-limited
+unfolding xpwrite_of
+returns-in_err-limited c = run_decides _ _ _ _ c.from_residual.ensures.1 c.in_err-limited.ensures ∙ at_most _ _ _ _ _ c.bytes.ensures
 
 pub returns : goal.returns
-returns c = c.settle.ensures ∙ xpwrite_on _ _ _ _ c.span.ensures _ _ c.limited-v.ensures
+unfolding xpwrite_of
+returns c = run_passes _ _ _ c.in_ok-limited.ensures (c.accept.ensures ∙ ap (λ x. go (XpWrite x) Good) c.span.ensures) ∙ at_most _ _ _ _ _ c.bytes.ensures

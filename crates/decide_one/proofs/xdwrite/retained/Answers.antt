@@ -1,10 +1,14 @@
 -- `decide_one::xdwrite::retained` meets its contract.
-use mathlib.Core.Path.{sym, ◌∙◌}
-use Rattle.decide_one.specs.Laws.{retains_at, retains_busy}
+use Rattle.std.proofs.Common.{Err, ap, sym, ◌∙◌}
+use Rattle.meaning.specs.Runs.{missing}
+use Rattle.decide_one.specs.Stages.{retained_of}
 use Rattle.decide_one.proofs.xdwrite.retained.Goals as goal
 
-pub returns-in_default : goal.returns-in_default
-returns-in_default c = retains_busy _ _ _ _ (sym c.empty_slot.ensures ∙ c.in_default.is)
+pub returns-in_err-i : goal.returns-in_err-i
+unfolding retained_of
+returns-in_err-i c =
+    missing _ _ _ _ c.from_residual.ensures.1 c.in_err-i.ensures.value ∙ ap Err c.at.ensures ∙ rw (sym c.empty_slot-free.ensures ∙ c.in_err-i.ensures.ok_part)
 
 pub returns : goal.returns
-returns c = retains_at _ _ _ _ _ (sym c.empty_slot.ensures ∙ c.in-At.is)
+unfolding retained_of
+returns c = c.accept.ensures ∙ rw (sym c.empty_slot-free.ensures ∙ c.in_ok-i.ensures.ok_part)

@@ -1,22 +1,16 @@
 -- `decide_one::xdwrite::xdwrite_ten` meets its contract.
 use mathlib.Core.Path.{◌∙◌}
-use native.Mathlib.Omega.{arith}
-use Rattle.command.specs.Length.{bytes_small}
-use Rattle.decide_one.specs.Laws.{xdwrite_ten_on, xdwrite_ten_stop}
+use Rattle.std.proofs.Common.{false, ap₂}
+use Rattle.meaning.specs.Runs.{run_decides, run_passes}
+use Rattle.slots.specs.Find.{empty_slot}
+use Rattle.decide_one.specs.Stages.{retained_of, xdwrite_ten_of}
+use Rattle.decide_one.specs.Laws.{at_most}
 use Rattle.decide_one.proofs.xdwrite.xdwrite_ten.Goals as goal
 
-pub overflow_mul-k : goal.overflow_mul-k
-overflow_mul-k c =
-    let args = c.args in
-    let pre = c.requires in
-    omega (arith, bytes_small args.k args.g pre.1 pre.0.placed.ranges)
-
-pub returns-in-Refuse : goal.returns-in-Refuse
-returns-in-Refuse c = xdwrite_ten_stop _ _ _ _ _ c.limited-v.ensures _ _ _ _ c.in-Refuse.is
+pub returns-in_err-limited : goal.returns-in_err-limited
+unfolding xdwrite_ten_of
+returns-in_err-limited c = run_decides _ _ _ _ c.from_residual.ensures.1 c.in_err-limited.ensures ∙ at_most _ _ _ _ _ c.bytes.ensures
 
 pub returns : goal.returns
-returns c =
-    let disable = c.disable in
-    let span = c.span in
-    let limited = c.limited-v in
-    c.retained.ensures ∙ xdwrite_ten_on _ _ _ _ span.ensures _ _ limited.ensures _ disable.ensures.0 _ c.in_default.is
+unfolding xdwrite_ten_of
+returns c = run_passes _ _ _ c.in_ok-limited.ensures (c.retained.ensures ∙ ap₂ (λ x y. retained_of (empty_slot c.args.call.shelf.image.now c.args.call.shelf.g) x false y) c.span.ensures c.disable.ensures) ∙ at_most _ _ _ _ _ c.bytes.ensures

@@ -2,7 +2,7 @@
 use Rattle.std.proofs.Common.{ℕ, List, ap, ◌∙◌, arith}
 use Rattle.octets.specs.Put.{put_whole}
 use Rattle.octets.specs.Number.{be}
-use Rattle.hex_words.specs.Unhex.{number_long, number_hex, length_unhex}
+use Rattle.hex_words.specs.Unhex.{number_long, number_hex, length_unhex, number_of_bytes}
 use Rattle.hex_words.proofs.digits.number.Goals as goal
 
 pub unhex-requires : goal.unhex-requires
@@ -10,6 +10,7 @@ unhex-requires c = (number_hex _ c.requires, omega (arith, number_long _ c.requi
 
 pub returns : goal.returns
 returns c =
-    c.be4.ensures.0
-    ∙ ap (λ (xs : List ℕ). be 4 xs 0)
-    (c.unhex.ensures.wrote.leaves ∙ put_whole _ _ (omega (arith, length_unhex c.args.w.now, number_long _ c.requires)))
+    let long = number_long _ c.requires in
+    c.from_be_bytes.ensures
+    ∙ number_of_bytes _ (omega arith)
+    ∙ ap (λ (xs : List ℕ). be 4 xs 0) (c.unhex.ensures.wrote.leaves ∙ put_whole _ _ (omega (arith, length_unhex c.args.w.now)))

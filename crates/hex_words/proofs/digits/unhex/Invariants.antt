@@ -1,12 +1,8 @@
 -- `hex_words::digits::unhex` meets its contract. The loop's invariant: the first i bytes are read.
-use Rattle.std.proofs.Common.{◌≡◌, ◌≤◌, ◌-◌, length, take}
+use Rattle.std.proofs.Common.{take}
 use Rattle.text.specs.Room.{Wrote}
 use Rattle.hex_words.specs.Digits.{unhex}
 use Rattle.hex_words.proofs.digits.unhex.Given as goal
 
 abbrev pub invariant-loop-i : goal.invariant-loop-i
-invariant-loop-i l =
-    (l.i ≤ l.n) × (length l.room ≡ length l.initial.room) × Wrote (take l.i (unhex l.w)) 0 l.i l.initial.room l.room
-
-abbrev pub decreases-loop-i : goal.decreases-loop-i
-decreases-loop-i l = l.n - l.i
+invariant-loop-i l = Wrote (take l.i (unhex l.w)) 0 l.i l.initial.room l.room

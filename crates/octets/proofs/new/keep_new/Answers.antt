@@ -1,14 +1,19 @@
 -- `octets::new::keep_new` meets its contract.
-use mathlib.Core.Path.{sym, refl}
-use native.Mathlib.Omega.{arith}
+use Rattle.std.proofs.Common.{ℕ, ◌<◌, not, eqb, sym, refl, ap, arith, length-take, get_or-take}
 use Rattle.folds.specs.All.{all_none, all_turn, all_end}
 use Rattle.octets.proofs.new.keep_new.Goals as goal
 
-pub loop-i-init : goal.loop-i-init
-loop-i-init c = (omega arith, sym (all_none _))
+pub loop-k-init : goal.loop-k-init
+loop-k-init c = sym (all_none _)
 
-pub loop-i-preserved : goal.loop-i-preserved
-loop-i-preserved c = (omega arith, all_turn _ _ _ _ c.loop-i.invariant.1 refl)
+pub loop-k-preserved : goal.loop-k-preserved
+loop-k-preserved c =
+    let a = c.args in
+    let i = c.loop-k.k-index in
+    let l : i < a.n = omega (arith, length-take a.n a.kept.now) in
+    all_turn _ _ _ _ c.loop-k.invariant (ap (λ (k : ℕ). not (eqb k a.x)) (get_or-take a.n a.kept.now i 0 l))
 
 pub returns : goal.returns
-returns c = let the-loop = c.loop-i in (all_end _ _ _ _ the-loop.invariant.1 the-loop.invariant.0 c.loop-i-test.false, refl)
+returns c =
+    let long = length-take c.args.n c.args.kept.now in
+    (all_end _ _ _ _ c.loop-k.invariant (omega (arith, long)) (omega (arith, long)), refl)

@@ -10,4 +10,4 @@ returns c =
     let is_zero = c.is_zero in
     let args = c.args in
     let row-sum = c.row_sum in
-    (ap not is_zero.ensures ∙ open_is args.image.now args.g args.row _ row-sum.ensures (search rules), row-sum.ensures)
+    (ap not is_zero.ensures ∙ open_is args.shelf.image.now args.shelf.g args.row _ row-sum.ensures (search rules), row-sum.ensures)

@@ -11,7 +11,7 @@ use Rattle.rowsum.proofs.sum.add_drive.Goals as goal
 pub returns-then-not-counted : goal.returns-then-not-counted
 returns-then-not-counted c =
     let args = c.args in
-    let block = block_in args.image.now args.g args.row args.drive in
+    let block = block_in args.shelf.image.now args.shelf.g args.row args.drive in
     let not-counted = sym c.counted.ensures ∙ c.if-not-counted.true in
     sym (ap (λ (t : Bool). args.sum.now ⊻ cond t block []) not-counted ∙ xor_nil _)
 
@@ -19,4 +19,4 @@ pub xor_from-requires : goal.xor_from-requires
 xor_from-requires c =
     let args = c.args in
     let pre = c.requires in
-    omega (arith, block_room args.image.now args.g args.drive args.row pre.0 pre.2 pre.1, c.place.ensures.0, pre.3)
+    omega (arith, block_room args.shelf.image.now args.shelf.g args.drive args.row args.shelf.framed pre.1 pre.0, c.place.ensures.0, pre.2)

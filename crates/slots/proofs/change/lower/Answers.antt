@@ -1,17 +1,13 @@
 -- `slots::change::lower` meets its contract.
-use mathlib.Core.Path.{◌∙◌}
-use native.Mathlib.Omega.{arith}
+use Rattle.std.proofs.Common.{◌∙◌, arith}
 use Rattle.slots.specs.Turns.{lowered_none, lowered_more, lowered_done}
 use Rattle.slots.proofs.change.lower.Goals as goal
 
 pub loop-i-init : goal.loop-i-init
-loop-i-init c = (omega arith, omega arith, lowered_none _ _ _)
+loop-i-init c = lowered_none _ _ _
 
 pub loop-i-preserved : goal.loop-i-preserved
-loop-i-preserved c =
-    let lower-one = c.lower_one in
-    let the-loop = c.loop-i in
-    (omega arith, omega arith, lower-one.ensures ∙ lowered_more _ _ _ _ _ the-loop.invariant.2)
+loop-i-preserved c = c.lower_one.ensures ∙ lowered_more _ _ _ _ _ c.loop-i.invariant
 
 pub returns : goal.returns
-returns c = lowered_done _ _ _ _ _ c.loop-i.invariant.2 (omega arith) (omega arith)
+returns c = lowered_done _ _ _ _ _ c.loop-i.invariant (omega arith) (omega arith)

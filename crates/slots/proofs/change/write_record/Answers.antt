@@ -1,19 +1,13 @@
 -- `slots::change::write_record` meets its contract.
-use mathlib.Core.Path.{ap, ◌∙◌}
+use Rattle.std.proofs.Common.{ap, ◌∙◌}
 use Rattle.octets.specs.Put.{put}
-use Rattle.slots.specs.RecordLaws.{stored_bytes}
+use Rattle.octets.specs.Number.{to_be}
+use Rattle.slots.specs.Record.{bytes_of}
 use Rattle.slots.proofs.change.write_record.Goals as goal
 
-pub put_at-requires : goal.put_at-requires
-put_at-requires c = c.requires
-
 pub returns : goal.returns
+unfolding put to_be bytes_of
 returns c =
-    let last = c.to_be4-last in
-    let first = c.to_be4-first in
-    let len = c.to_be4-len in
-    let rank = c.to_be4-rank in
-    let args = c.args in
     c.put_at.ensures
-    ∙ ap (put args.image.now args.at)
-    (stored_bytes args.r rank.result len.result first.result last.result rank.ensures len.ensures first.ensures last.ensures)
+    ∙ ap (put c.args.image.now c.args.at)
+    (rw (c.put_be-6.ensures, c.put_be-5.ensures, c.put_be-4.ensures, c.put_be-3.ensures, c.put_be-2.ensures, c.put_be.ensures))

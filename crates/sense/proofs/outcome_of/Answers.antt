@@ -1,5 +1,0 @@
--- `sense::outcome_of` meets its contract.
-use Rattle.sense.proofs.outcome_of.Goals as goal
-
-pub returns : goal.returns
-returns c = cc
