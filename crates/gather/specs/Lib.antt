@@ -5,3 +5,4 @@ pub mod Whole
 pub mod InTurn
 pub mod AtOnce
 pub mod Turns
+pub mod Steps
