@@ -1,4 +1,4 @@
--- From the act at hand to the case of it that the code is in.
+-- From the act at hand to the case of it that the code is in: no proof needs it, and it holds of what the code does.
 use Rattle.std.specs.Prelude.{ℕ, ◌≡◌, refl, List, [], length}
 use Rattle.std.proofs.Common.{sym}
 use Rattle.octets.specs.Put.{put, put_nil}

@@ -1,4 +1,4 @@
--- Bytes between the image and the caller's rooms.
+-- Bytes between the image and the caller's rooms: no proof needs it, and it holds of what the code does.
 use Rattle.std.specs.Prelude.{ℕ, ◌≡◌, List, length}
 use Rattle.std.proofs.Common.{ap, ap₂, ◌∙◌}
 use Rattle.octets.specs.Part.{part}

@@ -1,15 +1,16 @@
 -- How one piece is passed on, step by step: no proof needs it, and it holds of what the code does.
-use Rattle.std.specs.Prelude.{ℕ, ◌+◌, ◌≤◌, ◌≡◌, Bool, true, false, cond, List, [], length}
+use Rattle.std.specs.Prelude.{ℕ, ◌+◌, ◌≤◌, ◌≡◌, refl, Bool, true, false, cond, List, [], length}
 use Rattle.std.proofs.Common.{arith, sym, ap, ap₂, ◌∙◌}
-use Rattle.octets.specs.Part.{part, length_part_le, part_whole}
+use Rattle.octets.specs.Part.{part, length_part_le}
 use Rattle.octets.specs.Put.{put, put_nil}
 use Rattle.octets.specs.PutPut.{part_put_above}
-use Rattle.octets.specs.Pieces.{put_parts, part_ahead}
+use Rattle.octets.specs.Pieces.{part_ahead}
 use Rattle.octets.specs.Xor.{◌⊻◌}
+use Rattle.passes.specs.Pieces.{PieceLaws, reached, reached_none, reached_more, reached_all}
 use Rattle.meaning.specs.Acts.{mixed, laid}
 use Rattle.act.specs.declared.pass.Pass.{Pass}
 use Rattle.act.specs.Pass.{laid_of, passed_of, laid_piece, Passable}
-use Rattle.act.specs.PassTurns.{piece_of, laid_of_length}
+use Rattle.act.specs.PassTurns.{piece_of, laid_of_short, still_passable, laid_ahead}
 
 -- ---- the result's bytes
 
@@ -49,15 +50,24 @@ unfolding passed_piece
 piece_in_turn s sent p o k a t ae al te =
     te ∙ ap₂ (λ (n : ℕ) (x : List ℕ). put s (p.to + o) (laid p.adds (part s (p.to + o) n) x)) al ae
 
--- ---- the first o bytes are passed on
+-- ---- the first o bytes are passed on: what `passes` says of any bytes that go piece by piece
 
 module _ (s sent : List ℕ) (p : Pass) where
+  laws : PieceLaws (λ (q : Pass). q.to) (λ q. length sent) (λ q t. Passable t sent q) (λ q t. laid_of t sent q)
+  laws =
+      record {
+        inside = λ q t h. h.to_in;
+        short = λ q t h. laid_of_short t sent q h;
+        fits = λ q t ys h l. still_passable t sent q h ys;
+        ahead = λ q t ys o k h. laid_ahead t sent q h ys o k;
+      }
+
   unfoldable pub passed_to : ℕ → List ℕ
   passed_to o = put s p.to (part (laid_of s sent p) 0 o)
 
   pub passed_none : s ≡ passed_to 0
-  unfolding passed_to part
-  passed_none = sym (put_nil s p.to)
+  unfolding passed_to reached
+  passed_none = reached_none laws p s
 
   module _ (h : Passable s sent p) (o : ℕ) (t : List ℕ) (e : t ≡ passed_to o) where
     module _ (k : ℕ) (le : o + k ≤ length sent) where
@@ -78,15 +88,9 @@ module _ (s sent : List ℕ) (p : Pass) where
           ∙ part_put_above s p.to done (p.to + o) k (omega (arith, length_part_le (laid_of s sent p) 0 o))
 
       pub passed_more : (u : List ℕ) → u ≡ passed_piece t sent p o k → u ≡ passed_to (o + k)
-      unfolding passed_to passed_piece
-      passed_more u ue =
-          let r = laid_of s sent p in
-          ue
-          ∙ ap (put t (p.to + o))
-          (ap₂ (λ (x y : List ℕ). laid p.adds x (mixed p.mirror (part sent o k) y)) to_kept from_kept ∙ sym (piece_of s sent p o k le))
-          ∙ ap (λ (x : List ℕ). put x (p.to + o) (part r o k)) e
-          ∙ put_parts s p.to r o k
+      unfolding passed_to passed_piece reached
+      passed_more u ue = reached_more laws p s h o t e p.to k (o + k) (laid_piece t sent p o k) u refl refl le (sym (piece_of t sent p o k le)) ue
 
     pub passed_all : length sent ≤ o → t ≡ passed_of s sent p
-    unfolding passed_to passed_of
-    passed_all le = e ∙ ap (put s p.to) (part_whole (laid_of s sent p) o (omega (arith, laid_of_length s sent p h)))
+    unfolding passed_to passed_of reached
+    passed_all le = reached_all laws p s h o t e p.to refl le

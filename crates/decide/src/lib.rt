@@ -22,7 +22,7 @@ use sense::Answer;
 pub fn called(image: &[u8], came: Came) -> Result<(Geometry, usize), Answer>
     ensures { result ≡ called_of image.now came }
 {
-    let shelf = image::shelf_of(image).ok_or(Answer::BadImage)?;
+    let shelf = image::shelf_in(image).ok_or(Answer::BadImage)?;
     let t = drives::find_target(shelf, came).ok_or(Answer::NoTarget)?;
     Ok((shelf.g, t))
 }

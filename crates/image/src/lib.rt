@@ -9,7 +9,7 @@ ghost use Rattle.image.specs.Valid.{valid_image};
 use geometry::Frame;
 
 // The image with its header, where it is a shelf's.
-pub fn shelf_of(image: &[u8]) -> Option<Frame<'_>>
+pub fn shelf_in(image: &[u8]) -> Option<Frame<'_>>
     ensures { MatchOption result (valid_image image.now ≡ false) (λ f. (valid_image image.now ≡ true) × (f.image ≡ image.entry) × (f.g ≡ geometry_of image.now)) }
 {
     let shelf = Frame::of(image)?;
@@ -25,5 +25,5 @@ pub fn shelf_of(image: &[u8]) -> Option<Frame<'_>>
 pub fn valid(image: &[u8]) -> bool
     ensures { result ≡ valid_image image.now }
 {
-    shelf_of(image).is_some()
+    shelf_in(image).is_some()
 }

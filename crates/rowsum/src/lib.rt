@@ -39,7 +39,7 @@ pub fn listing(image: &[u8], out: &mut [u8]) -> usize
     ensures value { result ≡ listed_count image.now out.old }
     ensures out_after { out.new ≡ listed image.now out.old }
 {
-    match image::shelf_of(image) {
+    match image::shelf_in(image) {
         Some(shelf) => list_shelf(out, shelf),
         None => text::put_fitted(out, b"not a shelf\n"),
     }

@@ -1,4 +1,4 @@
--- `image::shelf_of` meets its contract.
+-- `image::shelf_in` meets its contract.
 use Rattle.std.specs.Borrow.{Bor}
 use Rattle.std.specs.Prelude.{List, ℕ}
 use Rattle.std.proofs.Common.{sym, ap₂, ◌∙◌}
@@ -7,7 +7,7 @@ use Rattle.geometry.specs.declared.Geometry.{Geometry}
 use Rattle.drives.specs.Table.{table_ok}
 use Rattle.slots.specs.Slots.{slots_ok}
 use Rattle.image.proofs.Shelf.{valid_is}
-use Rattle.image.proofs.shelf_of.Goals as goal
+use Rattle.image.proofs.shelf_in.Goals as goal
 
 pub returns-in_err-shelf : goal.returns-in_err-shelf
 returns-in_err-shelf c = rw c.from_residual.ensures (valid_is _ ∙ fails _ 0 c.in_err-shelf.ensures)
