@@ -249,7 +249,7 @@ impl Command {
         requires { InRange g × Fits self }
         ensures { (result ≡ resolved_of self g.b) × Fits result }
     {
-        if self.count != 0xFFFFFFFF || self.block.0 >= g.b {
+        if (self.count != 0xFFFFFFFF) | (self.block.0 >= g.b) {
             return self;
         }
         Command {

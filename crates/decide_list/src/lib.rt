@@ -30,7 +30,7 @@ pub fn regenerate(call: Call<'_>) -> Decision
 fn unbounded(k: Command) -> bool
     ensures { result ≡ unbounded k }
 {
-    k.int() && k.count == 0xFFFFFFFF
+    k.int() & (k.count == 0xFFFFFFFF)
 }
 
 // Checks 4 and 5. The length is refused where `long` says so.

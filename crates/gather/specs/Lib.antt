@@ -5,4 +5,5 @@ pub mod Whole
 pub mod InTurn
 pub mod AtOnce
 pub mod Turns
+pub mod Reached
 pub mod Steps

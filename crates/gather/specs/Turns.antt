@@ -46,7 +46,7 @@ module _ (s : List ℕ) (g : Geometry) (sent : List ℕ) (j : Job) (r : Ready s 
   own_kept (Some from) w = part_kept from (w from refl)
   own_kept None w = refl
 
-  summed_kept : summed after g sent j ≡ summed s g sent j
+  pub summed_kept : summed after g sent j ≡ summed s g sent j
   unfolding summed gathered
   summed_kept =
       ap₂ (λ (x : List ℕ) (xs : List (List ℕ)). x ⊻ xor_all (xs ++ int_data g sent j.count (get_or sent 0 0) j.sum.int)) (own_kept j.own r.own_apart)

@@ -36,7 +36,7 @@ pub fn gather(image: &mut [u8], g: Geometry, sent: &[u8], j: Job)
     requires { Ready image.old g sent.now j }
     ensures { image.new ≡ put image.old j.to (summed image.old g sent.now j) }
 {
-    if j.count * g.l <= PIECE && j.sources <= 8 {
+    if (j.count * g.l <= PIECE) & (j.sources <= 8) {
         in_turn(image, g, sent, j)
     } else {
         at_once(image, g, sent, j)

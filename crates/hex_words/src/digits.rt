@@ -23,7 +23,7 @@ fn all_hex(w: &[u8]) -> bool
 pub fn is_bytes(w: &[u8]) -> bool
     ensures { result ≡ is_bytes w.now }
 {
-    split::same(w, b"-") || !w.is_empty() && w.len() % 2 == 0 && all_hex(w)
+    split::same(w, b"-") | ((!w.is_empty() & (w.len() % 2 == 0)) && all_hex(w))
 }
 
 // Is the word eight digits?

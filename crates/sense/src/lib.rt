@@ -208,7 +208,7 @@ pub fn outcome_of(a: Answer, count: usize) -> Outcome
 {
     Outcome {
         answer: a,
-        sense: Sense::from(a),
+        sense: sense_of(a),
         count,
     }
 }

@@ -37,12 +37,12 @@ pub extern "C" fn shelf_step(
     ensures { StepCall image.old (to target) cdb.now sent.now room.old sense.old count.old result image.new room.new sense.new count.new }
 {
     if sense.len() < 37 {
-        return u32::from(Answer::ShortRoom);
+        return sense::number(Answer::ShortRoom);
     }
     let outcome = shelf::step(image, came_from(target), cdb, sent, room);
     octets::put_at(sense, 0, &outcome.sense.bytes);
     *count = outcome.count as u32;
-    u32::from(outcome.answer)
+    sense::number(outcome.answer)
 }
 
 // Hard reset of a drive.
@@ -50,7 +50,7 @@ pub extern "C" fn shelf_step(
 pub extern "C" fn shelf_reset(image: &mut [u8], target: u32) -> u32
     ensures { (result ≡ number_of (reset_answer image.old (to target))) × (image.new ≡ reset_image image.old (to target)) }
 {
-    u32::from(shelf::reset(image, came_from(target)))
+    sense::number(shelf::reset(image, came_from(target)))
 }
 
 // Marks a drive present (0) or failed (1).
@@ -58,7 +58,7 @@ pub extern "C" fn shelf_reset(image: &mut [u8], target: u32) -> u32
 pub extern "C" fn shelf_mark(image: &mut [u8], target: u32, state: u32) -> u32
     ensures { (result ≡ number_of (mark_answer image.old (to target) state)) × (image.new ≡ mark_image image.old (to target) state) }
 {
-    u32::from(shelf::mark(image, came_from(target), state))
+    sense::number(shelf::mark(image, came_from(target), state))
 }
 
 // 02, A3: "The routine that XORs one block into another", by itself, for an interrupt handler. As many bytes as both have are
